@@ -1,0 +1,4 @@
+pub mod FieldNumbers
+pub mod Layouts
+pub mod OctetLists
+pub mod WordBits
