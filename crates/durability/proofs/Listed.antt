@@ -30,7 +30,7 @@ record_stops input front capture plan cut left place is read long stop place_is 
       records = stop.records;
       rest = stop.rest;
       admits = stop.admits;
-      more = elim stop.more [ | inl some ↦ inl some | inr e ↦ inr (long.0 e) ];
+      more = elim stop.more [ inl some ↦ inl some | inr e ↦ inr (long.0 e) ];
       stopped = stop.stopped;
       left_is = stop.left_is;
     };
@@ -56,4 +56,4 @@ listed input front capture text plan cut moment depth entries is read long whole
       ∙ ap (λ (es : List Entry). list_text plan.topic (entitled plan.depth es)) all.entries_are;
 } where
   short : length input ≤ 2 ^ 40
-  short = elim (cases_lt (2 ^ 40) (length input)) [ | inl more ↦ absurd (false_not cut whole (long.1 more)) | inr less ↦ less ]
+  short = elim (cases_lt (2 ^ 40) (length input)) [ inl more ↦ absurd (false_not cut whole (long.1 more)) | inr less ↦ less ]

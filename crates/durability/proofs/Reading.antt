@@ -14,9 +14,9 @@ read_as None new bytes consumed end = tt
 read_as (Some input) None bytes consumed end = absurd consumed
 read_as (Some input) (Some more) bytes consumed end = record {
   counted_is = elim (cases_lt (2 ^ 40) (length bytes)) [
-      | inl long ↦ sym (ap counted consumed ∙ take-append-le (2 ^ 40) bytes more (omega (arith, long)))
-      | inr short ↦ ap counted (whole short)
-    ];
+    | inl long ↦ sym (ap counted consumed ∙ take-append-le (2 ^ 40) bytes more (omega (arith, long)))
+    | inr short ↦ ap counted (whole short)
+  ];
   whole = whole;
   long = λ long. let lengths : length input ≡ length (bytes ++ more) = ap length consumed in omega (arith, long, lengths, length-append bytes more);
 } where
@@ -30,21 +30,21 @@ stops_whole : (input bytes : List ℕ) (place : ℕ) → IsReadAs input bytes �
 stops_whole input bytes place read stop = record {
   left = stop.left;
   stops = elim stop.stops [
-      | inl x ↦ inl (record { plan_is = ap plan_at (sym read.counted_is) ∙ x.plan_is })
-      | inr x ↦ inr (record {
-          plan = x.plan;
-          capture = x.capture;
-          plan_is = ap plan_at (sym read.counted_is) ∙ x.plan_is;
-          stops = record {
-            records = x.stops.records;
-            rest = x.stops.rest;
-            admits = x.stops.admits;
-            more = elim x.stops.more [ | inl some ↦ inl some | inr cut ↦ inr (read.long cut) ];
-            stopped = x.stops.stopped;
-            left_is = x.stops.left_is;
-          };
-        })
-    ];
+    | inl x ↦ inl (record { plan_is = ap plan_at (sym read.counted_is) ∙ x.plan_is })
+    | inr x ↦ inr (record {
+      plan = x.plan;
+      capture = x.capture;
+      plan_is = ap plan_at (sym read.counted_is) ∙ x.plan_is;
+      stops = record {
+        records = x.stops.records;
+        rest = x.stops.rest;
+        admits = x.stops.admits;
+        more = elim x.stops.more [ inl some ↦ inl some | inr cut ↦ inr (read.long cut) ];
+        stopped = x.stops.stopped;
+        left_is = x.stops.left_is;
+      };
+    })
+  ];
   place_is = stop.place_is ∙ ap (λ (t : List ℕ). length t - stop.left) read.counted_is;
 }
 

@@ -10,6 +10,8 @@ mod plan;
 mod run;
 mod say;
 mod status;
+#[cfg(test)]
+mod tests;
 mod text;
 mod words;
 

@@ -39,12 +39,7 @@ fn list<S: Source, R: Rig>(alloc: Global, input: &mut S, rig: &mut R) -> Status
 }
 
 /// Does what the words ask for.
-fn answer<S: Source, R: Rig>(
-    alloc: Global,
-    words: &[String],
-    input: &mut S,
-    rig: &mut R,
-) -> Status
+fn answer<S: Source, R: Rig>(alloc: Global, words: &[String], input: &mut S, rig: &mut R) -> Status
     ensures usage { (result ≡ Status.Usage) ↔ (IsList (map string_bytes words.now) → ⊥) }
     ensures done { result ≡ Status.Done → R.tells → IfSome (S.left input.old) (λ bytes. WritesAll bytes (R.world rig.old).now (R.world rig.new).now) }
     ensures end { result ≡ Status.Done → IsAtEnd (S.left input.new) }

@@ -1,0 +1,171 @@
+//! The rows of the first path, and each of its objects failing.
+
+use crate::run::durability;
+use crate::status::{Status, number};
+use dur_base::{List, Octets};
+use dur_outside::{MemDisk, MemRig, MemSink, MemSource};
+use std::alloc::Global;
+
+const PLAN: &[u8] = b"prefix 0102030405060708\ntopic T transient hash 1 - - - - 0\n\
+writer a1a1a1a1a1a1a1a1a1a1a1a100000102 T -\nend\n";
+
+/// Moment 5: number 1 of the key aa, with 42.
+const FIRST: &[u8] = b"\x05\x00\x00\x00\x00\x00\x00\x00\x00\x00\x4c\x00\x00\x00\x52\x54\x50\x53\x02\
+\x05\x00\x00\xa1\xa1\xa1\xa1\xa1\xa1\xa1\xa1\xa1\xa1\xa1\xa1\x15\x07\x34\x00\
+\x00\x00\x10\x00\x00\x00\x00\x00\x00\x00\x01\x02\x00\x00\x00\x00\x01\x00\x00\
+\x00\x70\x00\x10\x00\xaa\xaa\xaa\xaa\xaa\xaa\xaa\xaa\xaa\xaa\xaa\xaa\xaa\xaa\
+\xaa\xaa\x01\x00\x00\x00\x00\x01\x00\x00\x2a\x00\x00\x00";
+
+/// Moment 6: number 2 of the key aa, with 43.
+const SECOND: &[u8] =
+    b"\x06\x00\x00\x00\x00\x00\x00\x00\x00\x00\x4c\x00\x00\x00\x52\x54\x50\x53\x02\
+\x05\x00\x00\xa1\xa1\xa1\xa1\xa1\xa1\xa1\xa1\xa1\xa1\xa1\xa1\x15\x07\x34\x00\
+\x00\x00\x10\x00\x00\x00\x00\x00\x00\x00\x01\x02\x00\x00\x00\x00\x02\x00\x00\
+\x00\x70\x00\x10\x00\xaa\xaa\xaa\xaa\xaa\xaa\xaa\xaa\xaa\xaa\xaa\xaa\xaa\xaa\
+\xaa\xaa\x01\x00\x00\x00\x00\x01\x00\x00\x2b\x00\x00\x00";
+
+/// Moment 5: a datagram of ten octets.
+const SHORT: &[u8] = b"\x05\x00\x00\x00\x00\x00\x00\x00\x00\x00\x0a\x00\x00\x00\x00\x00\x00\x00\x00\
+\x00\x00\x00\x00\x00";
+
+const LINE: &[u8] = b"T a1a1a1a1a1a1a1a1a1a1a1a100000102 2 aaaaaaaaaaaaaaaaaaaaaaaaaaaaaaaa \
+write 6 000100002b000000\n";
+
+/// Which calls of each object fail.
+#[derive(Drop)]
+struct Fails {
+    source: List<u64>,
+    sink: List<u64>,
+    err: List<u64>,
+}
+
+fn none(alloc: Global) -> Fails {
+    Fails {
+        source: List::new(alloc),
+        sink: List::new(alloc),
+        err: List::new(alloc),
+    }
+}
+
+fn call(alloc: Global, number: u64) -> List<u64> {
+    let mut calls = List::new(alloc);
+    let _ = calls.push(number);
+    calls
+}
+
+/// What became of a run: its status, what went out, and what was said.
+#[derive(Drop)]
+struct Outcome {
+    status: Status,
+    out: MemSink,
+    err: MemSink,
+}
+
+/// A run of one word over a plan and one or two records.
+fn run(alloc: Global, word: &str, first: &[u8], second: &[u8], fails: Fails) -> Outcome {
+    let mut bytes = Octets::new(alloc);
+    let _ = bytes.append(PLAN);
+    let _ = bytes.append(first);
+    let _ = bytes.append(second);
+    let mut words = Vec::new(alloc);
+    if let Ok(word) = String::from_str(alloc, word) {
+        let _ = words.push(word);
+    }
+    let mut input = MemSource::new(bytes, fails.source);
+    let mut err = MemSink::new(fails.err);
+    let disk = MemDisk::new(Octets::new(alloc), Octets::new(alloc), List::new(alloc));
+    let rig = MemRig::new(disk, MemSink::new(fails.sink));
+    let ran = durability(alloc, &words, &mut input, rig, &mut err);
+    let (_, out) = ran.rig.parts();
+    Outcome {
+        status: ran.status,
+        out,
+        err,
+    }
+}
+
+/// A run of `list` whose output is this.
+fn gives(done: &Outcome, status: Status, out: &[u8], err: &[u8]) -> bool {
+    done.status == status
+        && done.out.written().as_slice() == out
+        && done.err.written().as_slice() == err
+}
+
+#[test]
+fn the_newest_of_a_key_is_listed(rt: HostRuntime) {
+    let alloc = rt.alloc();
+    let done = run(alloc, "list", FIRST, SECOND, none(alloc));
+    assert!(rt; gives(&done, Status::Done, LINE, b""));
+    let done = run(alloc, "list", b"", b"", none(alloc));
+    assert!(rt; gives(&done, Status::Done, b"", b""));
+}
+
+#[test]
+fn other_forms_and_words_are_named(rt: HostRuntime) {
+    let alloc = rt.alloc();
+    let done = run(alloc, "list", SHORT, b"", none(alloc));
+    assert!(rt;
+        gives(
+            &done,
+            Status::NotYet(107),
+            b"",
+            b"durability: not yet 107\n"
+        )
+    );
+    assert!(rt; number(done.status) == 14);
+    let done = run(alloc, "list", FIRST, FIRST, none(alloc));
+    assert!(rt;
+        gives(
+            &done,
+            Status::NotYet(197),
+            b"",
+            b"durability: not yet 197\n"
+        )
+    );
+    let done = run(alloc, "lists", FIRST, b"", none(alloc));
+    assert!(rt; gives(&done, Status::Usage, b"", b"durability: usage\n"));
+}
+
+#[test]
+fn a_failing_source_is_a_read_fault(rt: HostRuntime) {
+    let alloc = rt.alloc();
+    for number in 0..2u64 {
+        let mut fails = none(alloc);
+        fails.source = call(alloc, number);
+        let done = run(alloc, "list", FIRST, SECOND, fails);
+        assert!(rt; gives(&done, Status::ReadFault, b"", b"durability: read fault\n"));
+    }
+}
+
+#[test]
+fn a_failing_sink_is_a_write_fault(rt: HostRuntime) {
+    let alloc = rt.alloc();
+    let mut fails = none(alloc);
+    fails.sink = call(alloc, 0);
+    let done = run(alloc, "list", FIRST, SECOND, fails);
+    assert!(rt; gives(&done, Status::WriteFault, b"", b"durability: write fault\n"));
+    let mut fails = none(alloc);
+    fails.sink = call(alloc, 1);
+    let done = run(alloc, "list", FIRST, SECOND, fails);
+    assert!(rt; gives(&done, Status::Done, LINE, b""));
+}
+
+#[test]
+fn a_failing_err_changes_no_status(rt: HostRuntime) {
+    let alloc = rt.alloc();
+    let mut fails = none(alloc);
+    fails.err = call(alloc, 0);
+    let done = run(alloc, "list", SHORT, b"", fails);
+    assert!(rt; gives(&done, Status::NotYet(107), b"", b""));
+    let mut fails = none(alloc);
+    fails.err = call(alloc, 1);
+    let done = run(alloc, "list", SHORT, b"", fails);
+    assert!(rt;
+        gives(
+            &done,
+            Status::NotYet(107),
+            b"",
+            b"durability: not yet 107\n"
+        )
+    );
+}
