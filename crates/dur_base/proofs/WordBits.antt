@@ -91,14 +91,14 @@ normal_pushed words i count n within above normal = record {
   last j e = rw e (same_bit words i (omega arith))
 
 -- the bits of the first word, and of those behind it
-bit_behind : (word : ℕ) (words : List ℕ) (j : ℕ) → 32 ≤ j → has_bit (word ∷ words) j ≡ has_bit words (j - 32)
+pub bit_behind : (word : ℕ) (words : List ℕ) (j : ℕ) → 32 ≤ j → has_bit (word ∷ words) j ≡ has_bit words (j - 32)
 bit_behind word words j far =
     let place : j / 32 ≡ suc ((j - 32) / 32) = omega arith in
     let bit : j % 32 ≡ (j - 32) % 32 = omega arith in
     ap (λ q. bit_at (get_or (word ∷ words) q 0) (31 - j % 32) == 1) place
     ∙ ap (λ r. bit_at (get_or words ((j - 32) / 32) 0) (31 - r) == 1) bit
 
-bit_inside : (word : ℕ) (words : List ℕ) (j : ℕ) → j < 32 → has_bit (word ∷ words) j ≡ (bit_at word (31 - j) == 1)
+pub bit_inside : (word : ℕ) (words : List ℕ) (j : ℕ) → j < 32 → has_bit (word ∷ words) j ≡ (bit_at word (31 - j) == 1)
 bit_inside word words j near =
     let place : j / 32 ≡ 0 = omega arith in
     let bit : j % 32 ≡ j = omega arith in
@@ -109,7 +109,7 @@ bit_inside word words j near =
 word_width : (word : ℕ) → ℕ
 word_width word = if word == 0 then 0 else 32 - trailing_zeros w32 word
 
-abbrev IsWord : ℕ → Type 0
+abbrev pub IsWord : ℕ → Type 0
 IsWord word = word < 2 ^ 32
 
 word_clear : (word : ℕ) → IsWord word → (j : ℕ) → j < 32 → word_width word ≤ j → (bit_at word (31 - j) == 1) ≡ false

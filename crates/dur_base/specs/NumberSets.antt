@@ -1,5 +1,6 @@
 -- Sets of numbers from a base on.
-use Rattle.std.specs.Prelude.{◌≡◌, ℕ, ◌+◌, ◌-◌, ◌≤◌, ◌/◌, ◌%◌, ◌==◌, ◌&&◌, ◌⊎◌, Bool, true, false, nat_lt, nat_le, List, [], ◌∷◌, slice_index, if◌then◌else◌}
+use Rattle.std.specs.Prelude.{length, slice_index_or, ◌^◌, ◌<◌}
+use Rattle.std.specs.Prelude.{◌≡◌, ℕ, ◌+◌, ◌-◌, ◌≤◌, ◌/◌, ◌%◌, ◌==◌, ◌&&◌, ◌⊎◌, Bool, true, false, nat_lt, nat_le, List, [], ◌∷◌, slice_index, slice_index_or, if◌then◌else◌}
 use Rattle.std.specs.Int.{bit_at, w32, trailing_zeros}
 
 -- what contracts see of a set
@@ -21,6 +22,12 @@ pub record IsNormal (count : ℕ) (words : List ℕ) : Type 0 where
   pub within : count ≤ 256
   pub clear : IsClearFrom words count
   pub reaches : (count ≡ 0) ⊎ (has_bit words (count - 1) ≡ true)
+
+-- eight words of 32 bits, in the normal form
+pub record IsNumberSet (set : NumberSet) : Type 0 where
+  pub eight : length set.words ≡ 8
+  pub words : (i : ℕ) → slice_index_or set.words i 0 < 2 ^ 32
+  pub normal : IsNormal set.count set.words
 
 -- whether the number is in the set
 abbrev pub names : NumberSet → ℕ → Bool

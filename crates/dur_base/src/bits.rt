@@ -1,7 +1,7 @@
 //! Sets of sequence numbers, as ACKNACK and GAP carry them (DDSI-RTPS 9.4.2.6).
 
 ghost use Rattle.std.specs.Prelude.{◌≡◌, ℕ, ◌+◌, ◌*◌, ◌<◌, ◌≤◌, ◌==◌, ◌||◌, length};
-ghost use Rattle.dur_base.specs.NumberSets.{names, has_bit, width_of, set_of, empty_set};
+ghost use Rattle.dur_base.specs.NumberSets.{NumberSet, IsNumberSet, names, has_bit, width_of, set_of, empty_set};
 
 use crate::Number;
 use std::marker::Model;
@@ -122,3 +122,8 @@ impl Bits {
         self.count = i + 1;
     }
 }
+
+/// Two sets over one base with the same numbers are equal: a set has one form.
+pub fn sets_have_one_form()
+    ensures { (a b : NumberSet) → IsNumberSet a → IsNumberSet b → a.base ≡ b.base → ((k : ℕ) → names a k ≡ names b k) → a ≡ b }
+{}

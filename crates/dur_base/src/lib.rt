@@ -13,8 +13,10 @@ mod names;
 mod numbers;
 mod octets;
 mod sample;
+#[cfg(test)]
+mod tests;
 
-pub use bits::Bits;
+pub use bits::{Bits, sets_have_one_form};
 pub use entry::Entry;
 pub use fact::Fact;
 pub use fields::{
