@@ -1,6 +1,5 @@
 -- What a look at a feed tells.
-use Rattle.std.specs.Prelude.{◌≡◌, ℕ, ◌+◌, ◌≤◌, Bool, List, length, drop}
-use Rattle.dur_capture.specs.declared.record.Record.{Record}
+use Rattle.std.specs.Prelude.{ℕ, ◌+◌, ◌≤◌, Bool, length, drop}
 use Rattle.dur_capture.specs.declared.front.Head.{Head}
 use Rattle.dur_capture.specs.declared.look.Seen.{Seen}
 use Rattle.dur_capture.specs.declared.look.Seen.TheVariants as seen

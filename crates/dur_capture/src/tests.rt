@@ -16,7 +16,9 @@ fn a_record_is_written_and_reads_back(rt: HostRuntime) {
     let count = write_record(Ticks(0x0102), 7412, &[0xaa, 0xbb], &mut out);
     assert!(rt; count == 16);
     assert!(rt;
-        out == [2, 1, 0, 0, 0, 0, 0, 0, 0xf4, 0x1c, 2, 0, 0, 0, 0xaa, 0xbb, 9, 9]
+        out == [
+            2, 1, 0, 0, 0, 0, 0, 0, 0xf4, 0x1c, 2, 0, 0, 0, 0xaa, 0xbb, 9, 9
+        ]
     );
     let mut feed = Feed::new(rt.alloc(), 0);
     assert!(rt; feed.push(&out).is_ok());

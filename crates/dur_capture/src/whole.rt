@@ -1,9 +1,10 @@
 //! A capture as a whole.
 
-ghost use Rattle.std.specs.Prelude.{◌≡◌, ◌++◌, ◌≤◌, ◌^◌, [], List as Sequence, ℕ, false, true, IfOk, IfErr, OnOk, OnErr};
+ghost use Rattle.std.specs.Prelude.{◌≡◌, ◌++◌, ◌≤◌, ◌^◌, ◌⊎◌, [], List as Sequence, ℕ, false, true, IfOk, IfErr, OnOk, OnErr};
 ghost use Rattle.std.specs.List.{flat_map};
+ghost use Rattle.dur_capture.specs.declared.fault.CapFault.{CapFault};
 ghost use Rattle.dur_capture.specs.Feeding.{Waits};
-ghost use Rattle.dur_capture.specs.Whole.{Feeds, IsWhole, IsFault};
+ghost use Rattle.dur_capture.specs.Whole.{Feeds, CaptureWithin, BreaksAt, IsFault};
 
 use crate::{CapFault, Feed, Record};
 use dur_base::List;
@@ -47,12 +48,15 @@ pub fn read_capture(
 ) -> Result<List<Record>, CapFault>
     requires { before ≤ 2 ^ 40 }
     // What is read is the capture.
-    ensures records { IfOk result (λ rs. IsWhole before (flat_map (λ p. p.items) pieces.now) rs) }
+    ensures records { IfOk result (λ rs. CaptureWithin before (flat_map (λ p. p.items) pieces.now) rs) }
     // No other records spell it, however it was cut into pieces.
-    ensures only { IfOk result (λ rs. (others : Sequence Record) → IsWhole before (flat_map (λ p. p.items) pieces.now) others → rs ≡ others) }
+    ensures only { IfOk result (λ rs. (others : Sequence Record) → CaptureWithin before (flat_map (λ p. p.items) pieces.now) others → rs ≡ others) }
     // A capture is read, unless memory runs out.
-    ensures read { (records : Sequence Record) → IsWhole before (flat_map (λ p. p.items) pieces.now) records → IfErr result (λ e. e ≡ CapFault.OutOfMemory) }
-    // A fault is the first break.
+    ensures read { (records : Sequence Record) → CaptureWithin before (flat_map (λ p. p.items) pieces.now) records → IfErr result (λ e. e ≡ CapFault.OutOfMemory) }
+    // A capture that breaks off is not read, and its one first break is told, unless memory runs out.
+    ensures broken { IfOk result (λ rs. (fault : CapFault) → BreaksAt before (flat_map (λ p. p.items) pieces.now) true fault → ⊥) }
+    ensures told { (fault : CapFault) → BreaksAt before (flat_map (λ p. p.items) pieces.now) true fault → IfErr result (λ e. (e ≡ fault) ⊎ (e ≡ CapFault.OutOfMemory)) }
+    // Each fault that is told is a break.
     ensures fault { IfErr result (λ e. IsFault before (flat_map (λ p. p.items) pieces.now) true e) }
 {
     let mut feed = Feed::new(alloc, before);

@@ -1,4 +1,4 @@
-use Rattle.std.proofs.Common.{◌≡◌, ◌∙◌, ap}
+use Rattle.std.proofs.Common.{◌∙◌}
 use Rattle.dur_capture.proofs.Records.{handed_out}
 use Rattle.dur_capture.proofs.feed.Feed.next.Goals as goal
 
