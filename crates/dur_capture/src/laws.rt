@@ -1,0 +1,15 @@
+//! What the words of the contracts come to.
+
+ghost use Rattle.std.specs.Prelude.{◌≡◌, Bool};
+ghost use Rattle.dur_capture.specs.declared.record.Record.{Record};
+ghost use Rattle.dur_capture.specs.declared.fault.CapFault.{CapFault};
+ghost use Rattle.dur_capture.specs.Feeding.{Feeding, Takes, Waits, Breaks};
+
+/// What a feed has left settles what `Feed::next` answers: it waits, or one record stands at its front, or it breaks
+/// off in one way. So None, a record and a fault each come exactly where their clause says, unless memory runs out.
+pub fn one_answer()
+    ensures waits_alone { (f : Feeding) (ended : Bool) → Waits f ended → ((r : Record) (g : Feeding) → Takes f r g → ⊥) × ((e : CapFault) → Breaks f ended e → ⊥) }
+    ensures record_alone { (f : Feeding) (ended : Bool) (r : Record) (g : Feeding) → Takes f r g → (e : CapFault) → Breaks f ended e → ⊥ }
+    ensures one_record { (f : Feeding) (r s : Record) (g h : Feeding) → Takes f r g → Takes f s h → (r ≡ s) × (g ≡ h) }
+    ensures one_break { (f : Feeding) (ended : Bool) (d e : CapFault) → Breaks f ended d → Breaks f ended e → d ≡ e }
+{}
