@@ -1,10 +1,10 @@
 -- From a place on before which all who work have left, nobody who works makes a call.
-use Rattle.std.proofs.Common.{◌≡◌, ◌≢◌, ◌⊎◌, ℕ, zero, suc, ◌+◌, ◌≤◌, Bool, true, false, List, [], ◌∷◌, ◌++◌, length, MatchBool, refl, ap, sym, ◌∙◌, subst, arith, cond}
+use Rattle.std.proofs.Common.{◌≡◌, ℕ, suc, ◌+◌, ◌≤◌, Bool, true, false, List, [], ◌∷◌, ◌++◌, length, MatchBool, refl, ap, sym, ◌∙◌, subst, arith, cond}
 use Rattle.std.specs.List.{filter}
 use Rattle.std.proofs.lemmas.List.{map-append}
 use mathlib.Core.Option.{some, some-ne-none}
 use lib.ListN.{get_elem?}
-use Rattle.dur_turn.specs.Calls.{total, events, calls_by, AreOf}
+use Rattle.dur_turn.specs.Calls.{total, events, calls_by}
 use Rattle.dur_turn.proofs.Rows.{by_append}
 use Rattle.turn_uses.specs.Laws.{LeavesLast, EachLeaves, NobodyBehind}
 use Rattle.turn_uses.proofs.Sums.{in_own, sums_by_pass, joined_of, part_below}

@@ -5,8 +5,9 @@ ghost use Rattle.turn_uses.specs.declared.counter.Event.TheVariants.{Added, Read
 
 use crate::counter::{Add, Counter, ReadCount};
 use crate::jobs::add_ones;
+use dur_base::OutOfMemory;
 use dur_turn::turn::{Pass, Turn};
-use std::alloc::{AllocError, Global};
+use std::alloc::Global;
 use std::sync::Wait;
 use std::thread;
 use std::thread::Threads;
@@ -48,7 +49,7 @@ pub fn read_beside<R: Threads + Wait + Sync>(
     alloc: Global,
     by: u64,
     times: usize,
-) -> Result<u64, AllocError>
+) -> Result<u64, OutOfMemory>
     requires { by + times < 2 ^ 64 }
     ensures { IfOk result (λ count. (by ≤ count) × (count ≤ by + times)) }
 {

@@ -7,8 +7,9 @@ ghost use Rattle.turn_uses.specs.declared.jobs.Job.{Job};
 ghost use Rattle.turn_uses.specs.declared.counter.Event.TheVariants.{Added};
 
 use crate::counter::{Add, Counter};
+use dur_base::OutOfMemory;
 use dur_turn::turn::{Pass, Root, Turn};
-use std::alloc::{AllocError, Global};
+use std::alloc::Global;
 use std::sync::Wait;
 use std::thread;
 use std::thread::Threads;
@@ -38,7 +39,7 @@ pub fn split_all(
     root: &mut Root<Counter>,
     count: usize,
     times: usize,
-) -> Result<Vec<Job>, AllocError>
+) -> Result<Vec<Job>, OutOfMemory>
     requires own { IsRootOf turn.now root.old }
     requires room { root.old.out + count < 2 ^ 32 }
     ensures own { IsRootOf turn.now root.new }
@@ -48,7 +49,9 @@ pub fn split_all(
     let mut jobs = Vec::new(alloc);
     for _ in 0..count {
         let pass = turn.split(root);
-        jobs.push(Job { pass, times })?;
+        if jobs.push(Job { pass, times }).is_err() {
+            return Err(OutOfMemory);
+        }
     }
     Ok(jobs)
 }
@@ -89,7 +92,7 @@ pub fn count_in_threads<R: Threads + Wait + Sync>(
     alloc: Global,
     threads: usize,
     times: usize,
-) -> Result<u64, AllocError>
+) -> Result<u64, OutOfMemory>
     requires some { (0 < threads) × (threads < 2 ^ 32) }
     requires fits { threads * times < 2 ^ 64 }
     ensures { IfOk result (λ count. count ≡ threads * times) }

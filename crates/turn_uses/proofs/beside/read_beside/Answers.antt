@@ -1,7 +1,6 @@
-use Rattle.std.proofs.Common.{◌≡◌, ℕ, ◌+◌, ◌++◌, ◌∷◌, [], List, replicate, ap, ◌∙◌, subst}
+use Rattle.std.proofs.Common.{◌≡◌, ℕ, ◌+◌, ◌++◌, ◌∷◌, [], replicate, ap, ◌∙◌, subst}
 use Rattle.dur_turn.specs.Calls.{events}
 use Rattle.turn_uses.specs.Counting.{IsLegal}
-use Rattle.turn_uses.specs.declared.counter.Event.{Event}
 use Rattle.turn_uses.specs.declared.counter.Event.TheVariants.{Added, Read}
 use Rattle.turn_uses.proofs.Counts.{reads_beside}
 use Rattle.turn_uses.proofs.beside.read_beside.Goals as goal
