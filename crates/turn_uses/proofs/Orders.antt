@@ -1,12 +1,12 @@
 -- From a place on before which all who work have left, nobody who works makes a call.
-use Rattle.std.proofs.Common.{◌≡◌, ℕ, suc, ◌+◌, ◌≤◌, Bool, true, false, List, [], ◌∷◌, ◌++◌, length, MatchBool, refl, ap, sym, ◌∙◌, subst, arith, cond}
+use Rattle.std.proofs.Common.{◌≡◌, ℕ, zero, suc, ◌+◌, ◌≤◌, ◌==◌, eqb, eqb-true, Bool, true, false, List, [], ◌∷◌, ◌++◌, length, MatchBool, refl, ap, sym, ◌∙◌, subst, arith, cond, append-nil}
 use Rattle.std.specs.List.{filter}
 use Rattle.std.proofs.lemmas.List.{map-append}
-use mathlib.Core.Option.{some, some-ne-none}
+use mathlib.Core.Option.{some, some-ne-none, some-injective}
 use lib.ListN.{get_elem?}
 use Rattle.dur_turn.specs.Calls.{total, events, calls_by}
 use Rattle.dur_turn.proofs.Rows.{by_append}
-use Rattle.turn_uses.specs.Laws.{LeavesLast, EachLeaves, NobodyBehind}
+use Rattle.turn_uses.specs.Laws.{LeavesLast, EachLeaves, NobodyBehind, AllBefore}
 use Rattle.turn_uses.proofs.Sums.{in_own, sums_by_pass, joined_of, part_below}
 
 module _ {E : Type 0} where
@@ -81,7 +81,8 @@ module _ {E : Type 0} where
           let cut : calls_by k log ≡ calls_by k before ++ calls_by k after = by_append k before after in
           let pass = joined_again own.0 own.1 cut in
           let leaves_last : LeavesLast leaves (calls_by k log) = subst (λ (b : Bool). MatchBool b (LeavesLast leaves (calls_by k log)) (filter leaves (calls_by k log) ≡ [])) is (each pass.0 k (calls_by k log) pass.1) in
-          let last = last_in (one_for leaves) (calls_by k before) (calls_by k after) leaves_last.before leaves_last.last e own.0 (sym cut ∙ leaves_last.are) own.1 in
+          let ends : calls_by k before ++ calls_by k after ≡ leaves_last.before ++ leaves_last.last ∷ [] = sym cut ∙ leaves_last.are in
+          let last = last_in (one_for leaves) (calls_by k before) (calls_by k after) leaves_last.before leaves_last.last e own.0 ends own.1 in
           let one : one_for leaves leaves_last.last ≡ 1 = ap (λ (b : Bool). cond b 1 0) leaves_last.leave in
           let below = part_below (one_for leaves) k after in
           let none = none_after in
@@ -93,3 +94,25 @@ module _ {E : Type 0} where
 
           joined_again : (p : ℕ) → get_elem? (calls_by k after) p ≡ some e → calls_by k log ≡ calls_by k before ++ calls_by k after → (j : ℕ) × (get_elem? joined j ≡ some (k, calls_by k log))
           joined_again p h cut = let r = behind (calls_by k before) (calls_by k after) p h in joined_of joined log are k r.0 e (ap (λ (l : List E). get_elem? l r.0) cut ∙ r.1)
+
+  -- a call of the pass k stands in the list with that number
+  placed : (log : List (ℕ × E)) (k p : ℕ) (e : E) → get_elem? (calls_by k log) p ≡ some e → (i : ℕ) × (get_elem? log i ≡ some (k, e))
+  placed [] k p e at = absurd (some-ne-none e (sym at))
+  placed (x ∷ xs) k p e at = step (λ q. placed xs k q e) (eqb k x.0) refl p at
+    where
+      step : ((q : ℕ) → get_elem? (calls_by k xs) q ≡ some e → (i : ℕ) × (get_elem? xs i ≡ some (k, e))) → (b : Bool) → eqb k x.0 ≡ b → (q : ℕ) → get_elem? (events (cond b (x ∷ filter (λ (y : ℕ × E). k == y.0) xs) (filter (λ (y : ℕ × E). k == y.0) xs))) q ≡ some e
+          → (i : ℕ) × (get_elem? (x ∷ xs) i ≡ some (k, e))
+      step rest true is zero h = (0, (λ i. some (sym (eqb-true k x.0 is) i, some-injective x.1 e h i)))
+      step rest true is (suc q) h = let r = rest q h in (suc r.0, r.1)
+      step rest false is q h = let r = rest q h in (suc r.0, r.1)
+
+  pub all_before : AllBefore E
+  all_before leaves works joined before after are each gone j k calls at is =
+      let cut : calls_by k (before ++ after) ≡ calls_by k before ++ calls_by k after = by_append k before after in
+      let own : calls_by k (before ++ after) ≡ calls = are.own j k calls at in
+      let none : calls_by k after ≡ [] = empty (calls_by k after) (λ e h. let r = placed after k 0 e h in absurd (cc (sym is ∙ nobody leaves works joined before after are each gone r.0 k e r.1))) in
+      sym (append-nil (calls_by k before)) ∙ (ap (λ (l : List E). calls_by k before ++ l) (sym none) ∙ (sym cut ∙ own))
+    where
+      empty : (l : List E) → ((e : E) → get_elem? l 0 ≡ some e → ⊥) → l ≡ []
+      empty [] h = refl
+      empty (x ∷ xs) h = absurd (h x refl)

@@ -2,7 +2,7 @@
 use Rattle.std.specs.Prelude.{◌≡◌, ℕ, ◌≤◌, Bool, true, false, List, [], ◌∷◌, ◌++◌, filter, length, MatchBool}
 use mathlib.Core.Option.{some}
 use lib.ListN.{get_elem?}
-use Rattle.dur_turn.specs.Calls.{total, events, AreOf}
+use Rattle.dur_turn.specs.Calls.{total, events, calls_by, AreOf}
 
 -- each entry of the list stands among the calls of its pass
 abbrev pub EntriesAreOwn : Type 0 → Type 0
@@ -29,10 +29,19 @@ module _ {E : Type 0} where
   EachLeaves leaves works joined =
       (j k : ℕ) (calls : List E) → get_elem? joined j ≡ some (k, calls) → MatchBool (works k) (LeavesLast leaves calls) (filter leaves calls ≡ [])
 
--- The passes that work leave with their last call each. Where as many have left before a place as work, nobody works any more: from that place on no pass that works makes a call
+-- nobody works any more: as many leaves stand here as passes work
+module _ {E : Type 0} where
+  abbrev pub NobodyWorks : (E → Bool) → (ℕ → Bool) → List (ℕ × List E) → List (ℕ × E) → Type 0
+  NobodyWorks leaves works joined before = length (filter (λ (pass : ℕ × List E). works pass.0) joined) ≤ length (filter leaves (events before))
+
+-- The passes that work leave with their last call each. From a place on before which nobody works any more, no pass that works makes a call
 abbrev pub NobodyBehind : Type 0 → Type 0
 NobodyBehind E = (leaves : E → Bool) (works : ℕ → Bool) (joined : List (ℕ × List E)) (before after : List (ℕ × E))
-    → AreOf joined (before ++ after)
-    → EachLeaves leaves works joined
-    → length (filter (λ (pass : ℕ × List E). works pass.0) joined) ≤ length (filter leaves (events before))
+    → AreOf joined (before ++ after) → EachLeaves leaves works joined → NobodyWorks leaves works joined before
     → (i k : ℕ) (e : E) → get_elem? after i ≡ some (k, e) → works k ≡ false
+
+-- The same by passes: all calls of a pass that works, its leave among them, stand before that place
+abbrev pub AllBefore : Type 0 → Type 0
+AllBefore E = (leaves : E → Bool) (works : ℕ → Bool) (joined : List (ℕ × List E)) (before after : List (ℕ × E))
+    → AreOf joined (before ++ after) → EachLeaves leaves works joined → NobodyWorks leaves works joined before
+    → (j k : ℕ) (calls : List E) → get_elem? joined j ≡ some (k, calls) → works k ≡ true → calls_by k before ≡ calls
