@@ -30,8 +30,7 @@ ghost use Rattle.std.specs.List.{All};
 ghost use Rattle.dur_turn.specs.Passes.{IsPassOf, IsRootOf};
 
 use dur_base::OutOfMemory;
-use dur_turn::call::{Call, Stands};
-use dur_turn::turn::{Pass, Root, Turn};
+use dur_turn::{Call, Pass, Root, Stands, Turn};
 use std::alloc::Global;
 use std::io;
 use std::sync::{Mutex, Wait};

@@ -6,7 +6,7 @@ ghost use Rattle.turn_uses.specs.declared.counter.Event.TheVariants.{Added, Read
 use crate::counter::{Add, Counter, ReadCount};
 use crate::jobs::add_ones;
 use dur_base::OutOfMemory;
-use dur_turn::turn::{Pass, Turn};
+use dur_turn::{Pass, Turn};
 use std::alloc::Global;
 use std::sync::Wait;
 use std::thread;

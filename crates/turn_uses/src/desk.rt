@@ -3,8 +3,7 @@ ghost use Rattle.std.specs.Prelude.{◌≡◌, ◌++◌, ◌∷◌, [], List};
 ghost use Rattle.dur_turn.specs.Passes.{IsPassOf, IsLonePass};
 ghost use Rattle.turn_uses.specs.declared.desk.Event.TheVariants.{Took, Marked};
 
-use dur_turn::call::{Call, Stands};
-use dur_turn::turn::{Pass, Turn};
+use dur_turn::{Call, Pass, Stands, Turn};
 use std::sync::Wait;
 
 /// How many were put, and how many of them were taken, each modulo 2^64.

@@ -8,7 +8,7 @@ ghost use Rattle.turn_uses.specs.declared.counter.Event.TheVariants.{Added};
 
 use crate::counter::{Add, Counter};
 use dur_base::OutOfMemory;
-use dur_turn::turn::{Pass, Root, Turn};
+use dur_turn::{Pass, Root, Turn};
 use std::alloc::Global;
 use std::sync::Wait;
 use std::thread;
