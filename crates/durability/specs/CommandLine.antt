@@ -1,0 +1,6 @@
+-- The command lines.
+use Rattle.std.specs.Prelude.{◌≡◌, ℕ, List, [], ◌∷◌, codes}
+
+-- the one word `list`
+abbrev pub IsList : List (List ℕ) → Type 0
+IsList words = words ≡ codes "list" ∷ []

@@ -1,0 +1,96 @@
+//! The top call: what the words ask for, over a source, a rig and a sink for the line of a fault.
+
+ghost use Rattle.std.specs.Prelude.{◌≡◌, ◌↔◌, ◌⊎◌, ℕ, List, map, string_bytes, IfSome};
+ghost use Rattle.std.specs.Io.KnownBytes.{IsAtEnd};
+ghost use Rattle.dur_outside.specs.Causes.{Rose};
+ghost use Rattle.durability.specs.CommandLine.{IsList};
+ghost use Rattle.durability.specs.Listing.{Lists, NotYetAt, WritesAll, WritesAtMost};
+ghost use Rattle.durability.specs.Saying.{IsSaid, wrote};
+ghost use Rattle.durability.specs.Status.{fault_line};
+
+use crate::listing::{NoText, listing_of};
+use crate::say::say;
+use crate::status::{Ran, Status, say_fault};
+use crate::words::is_list;
+use dur_outside::{Rig, Sink, Source};
+use std::alloc::Global;
+
+/// The command `list`: the text goes out once the input is read to its end.
+fn list<S: Source, R: Rig>(alloc: Global, input: &mut S, rig: &mut R) -> Status
+    ensures usage { result ≡ Status.Usage → ⊥ }
+    ensures done { result ≡ Status.Done → R.tells → IfSome (S.left input.old) (λ bytes. WritesAll bytes (R.world rig.old).now (R.world rig.new).now) }
+    ensures end { result ≡ Status.Done → IsAtEnd (S.left input.new) }
+    ensures part { R.tells → IfSome (S.left input.old) (λ bytes. WritesAtMost bytes (R.world rig.old).now (R.world rig.new).now) }
+    ensures read { result ≡ Status.ReadFault → Rose (S.faults input.old) (S.faults input.new) }
+    ensures write { result ≡ Status.WriteFault → Rose (R.sink_faults rig.old) (R.sink_faults rig.new) }
+    ensures not_yet { (place : ℕ) → result ≡ Status.NotYet place → IfSome (S.left input.old) (λ bytes. NotYetAt bytes place) }
+    ensures listed { (result ≡ Status.Done) ⊎ (result ≡ Status.WriteFault) → IfSome (S.left input.old) (λ bytes. (text : List ℕ) × Lists bytes text) }
+{
+    let text = match listing_of(alloc, input) {
+        Ok(text) => text,
+        Err(NoText::Memory) => return Status::OutOfMemory,
+        Err(NoText::ReadFault) => return Status::ReadFault,
+        Err(NoText::NotYet(place)) => return Status::NotYet(place),
+    };
+    match say(rig, &text) {
+        Ok(()) => Status::Done,
+        Err(_) => Status::WriteFault,
+    }
+}
+
+/// Does what the words ask for.
+fn answer<S: Source, R: Rig>(
+    alloc: Global,
+    words: &[String],
+    input: &mut S,
+    rig: &mut R,
+) -> Status
+    ensures usage { (result ≡ Status.Usage) ↔ (IsList (map string_bytes words.now) → ⊥) }
+    ensures done { result ≡ Status.Done → R.tells → IfSome (S.left input.old) (λ bytes. WritesAll bytes (R.world rig.old).now (R.world rig.new).now) }
+    ensures end { result ≡ Status.Done → IsAtEnd (S.left input.new) }
+    ensures part { R.tells → IfSome (S.left input.old) (λ bytes. WritesAtMost bytes (R.world rig.old).now (R.world rig.new).now) }
+    ensures read { result ≡ Status.ReadFault → Rose (S.faults input.old) (S.faults input.new) }
+    ensures write { result ≡ Status.WriteFault → Rose (R.sink_faults rig.old) (R.sink_faults rig.new) }
+    ensures not_yet { (place : ℕ) → result ≡ Status.NotYet place → IfSome (S.left input.old) (λ bytes. NotYetAt bytes place) }
+    ensures listed { (result ≡ Status.Done) ⊎ (result ≡ Status.WriteFault) → IfSome (S.left input.old) (λ bytes. (text : List ℕ) × Lists bytes text) }
+{
+    if !is_list(words) {
+        return Status::Usage;
+    }
+    list(alloc, input, rig)
+}
+
+/// Does what the words after the program's name ask for, and hands the rig back.
+///
+/// `list` reads a plan and a capture, and prints what the history that they admit entitles a late
+/// reader to. Other words are `Usage`. The status says what became of it, and a status other than
+/// `Done` is said on `err` in one line; that `err` fails changes no status.
+pub fn durability<S: Source, R: Rig, E: Sink>(
+    alloc: Global,
+    words: &[String],
+    input: &mut S,
+    rig: R,
+    err: &mut E,
+) -> Ran<R>
+    ensures usage { (result.status ≡ Status.Usage) ↔ (IsList (map string_bytes words.now) → ⊥) }
+    ensures done { result.status ≡ Status.Done → R.tells → IfSome (S.left input.old) (λ bytes. WritesAll bytes (R.world rig).now (R.world result.rig).now) }
+    ensures end { result.status ≡ Status.Done → IsAtEnd (S.left input.new) }
+    ensures part { R.tells → IfSome (S.left input.old) (λ bytes. WritesAtMost bytes (R.world rig).now (R.world result.rig).now) }
+    ensures read { result.status ≡ Status.ReadFault → Rose (S.faults input.old) (S.faults input.new) }
+    ensures write { result.status ≡ Status.WriteFault → Rose (R.sink_faults rig) (R.sink_faults result.rig) }
+    ensures not_yet { (place : ℕ) → result.status ≡ Status.NotYet place → IfSome (S.left input.old) (λ bytes. NotYetAt bytes place) }
+    ensures listed { (result.status ≡ Status.Done) ⊎ (result.status ≡ Status.WriteFault) → IfSome (S.left input.old) (λ bytes. (text : List ℕ) × Lists bytes text) }
+    ensures complete { IsList (map string_bytes words.now) → IfSome (S.left input.old) (λ bytes. (text : List ℕ) → Lists bytes text
+        → (Rose (S.faults input.old) (S.faults input.new) → ⊥) → (Rose (R.sink_faults rig) (R.sink_faults result.rig) → ⊥)
+        → (result.status ≡ Status.Done) ⊎ (result.status ≡ Status.OutOfMemory)) }
+    ensures stops { IsList (map string_bytes words.now) → IfSome (S.left input.old) (λ bytes. (place : ℕ) → NotYetAt bytes place
+        → (Rose (S.faults input.old) (S.faults input.new) → ⊥)
+        → (result.status ≡ Status.NotYet place) ⊎ (result.status ≡ Status.OutOfMemory)) }
+    ensures said { E.tells → IsSaid (fault_line result.status) (E.world err.old).now (E.world err.new).now }
+    ensures told { E.tells → (Rose (E.sink_faults err.old) (E.sink_faults err.new) → ⊥) → (E.world err.new).now ≡ wrote (fault_line result.status) (E.world err.old).now }
+{
+    let mut rig = rig;
+    let status = answer(alloc, words, input, &mut rig);
+    say_fault(err, status);
+    Ran { status, rig }
+}

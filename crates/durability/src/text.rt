@@ -1,0 +1,81 @@
+//! What `list` prints: a line for each entitled change.
+
+ghost use Rattle.std.specs.Prelude.{◌≡◌, ◌∷◌, ◌++◌, [], IfOk, OnOk};
+ghost use Rattle.std.specs.Fmt.{decimal};
+ghost use Rattle.hex.specs.Hex.{encode_lower};
+ghost use Rattle.durability.specs.Text.{payload_text, line, list_text};
+
+use dur_base::OutOfMemory;
+use dur_store::Change;
+use itoa::Buffer;
+use std::alloc::Global;
+
+fn append(out: &mut Vec<u8>, piece: &[u8]) -> Result<(), OutOfMemory>
+    ensures { OnOk result (out.new.items ≡ out.old.items ++ piece.now) }
+{
+    match out.extend_from_slice(piece) {
+        Ok(()) => Ok(()),
+        Err(_) => Err(OutOfMemory),
+    }
+}
+
+fn append_hex(alloc: Global, out: &mut Vec<u8>, octets: &[u8]) -> Result<(), OutOfMemory>
+    ensures { OnOk result (out.new.items ≡ out.old.items ++ encode_lower octets.now) }
+{
+    match hex::encode(alloc, octets) {
+        Ok(text) => append(out, text.as_bytes()),
+        Err(_) => Err(OutOfMemory),
+    }
+}
+
+fn append_number(out: &mut Vec<u8>, number: u64) -> Result<(), OutOfMemory>
+    ensures { OnOk result (out.new.items ≡ out.old.items ++ decimal number) }
+{
+    let mut digits = Buffer::new();
+    append(out, digits.format(number).as_bytes())
+}
+
+fn append_payload(alloc: Global, out: &mut Vec<u8>, octets: &[u8]) -> Result<(), OutOfMemory>
+    ensures { OnOk result (out.new.items ≡ out.old.items ++ payload_text octets.now) }
+{
+    match octets {
+        [] => append(out, b"-"),
+        [_, ..] => append_hex(alloc, out, octets),
+    }
+}
+
+#[tactic(auto, unfolding(crate::specs::Text::line))]
+fn append_line(
+    alloc: Global,
+    out: &mut Vec<u8>,
+    topic: &[u8],
+    change: &Change,
+) -> Result<(), OutOfMemory>
+    ensures { OnOk result (out.new.items ≡ out.old.items ++ line topic.now change.now) }
+{
+    append(out, topic)?;
+    append(out, b" ")?;
+    append_hex(alloc, out, &change.original.0)?;
+    append(out, b" ")?;
+    append_number(out, change.number.get())?;
+    append(out, b" ")?;
+    append_hex(alloc, out, &change.sample.key.0)?;
+    append(out, b" write ")?;
+    append_number(out, change.sample.stamp.0)?;
+    append(out, b" ")?;
+    append_payload(alloc, out, change.sample.payload.as_slice())?;
+    append(out, b"\n")
+}
+
+/// The lines of the changes of a topic, in their order.
+pub fn text_of(alloc: Global, topic: &[u8], changes: &[Change]) -> Result<Vec<u8>, OutOfMemory>
+    ensures { IfOk result (λ v. v.items ≡ list_text topic.now changes.now) }
+{
+    let mut out = Vec::new(alloc);
+    let mut rest = changes;
+    while let [change, later @ ..] = rest {
+        append_line(alloc, &mut out, topic, change)?;
+        rest = later;
+    }
+    Ok(out)
+}
