@@ -1,6 +1,6 @@
 //! Octets that one owner holds, and payloads that copies share.
 
-ghost use Rattle.std.specs.Prelude.{◌≡◌, [], ◌++◌, length, OnOk, OnErr, IfOk};
+ghost use Rattle.std.specs.Prelude.{◌≡◌, ◌≤◌, [], ◌++◌, length, slice_range, OnOk, OnErr, IfOk};
 
 use crate::OutOfMemory;
 use bytes::Bytes;
@@ -113,6 +113,18 @@ impl Payload {
         ensures { IfOk result (λ p. p ≡ self.now) }
     {
         match self.bytes.clone() {
+            Ok(bytes) => Ok(Payload { bytes }),
+            Err(_) => Err(OutOfMemory),
+        }
+    }
+
+    /// The payload of its octets from `from` to below `to`, which are not copied.
+    pub fn part(&self, from: usize, to: usize) -> Result<Payload, OutOfMemory>
+        requires order { from ≤ to }
+        requires within { to ≤ length self.now }
+        ensures { IfOk result (λ p. p ≡ slice_range self.now from to) }
+    {
+        match self.bytes.slice(from..to) {
             Ok(bytes) => Ok(Payload { bytes }),
             Err(_) => Err(OutOfMemory),
         }
