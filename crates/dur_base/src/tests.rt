@@ -41,7 +41,7 @@ fn fields_in_both_orders(rt: HostRuntime) {
 }
 
 #[test]
-fn sets_have_one_form(rt: HostRuntime) {
+fn a_set_has_one_form(rt: HostRuntime) {
     sets_have_one_form();
     let mut set = Bits::empty(Number::at(2));
     set.push(0);
