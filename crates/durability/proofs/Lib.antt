@@ -2,6 +2,5 @@ pub mod Admitted
 pub mod Complete
 pub mod Listed
 pub mod Reading
-pub mod Records
 pub mod Says
 pub mod Unique

@@ -1,13 +1,11 @@
 -- What was read of an input stands for all of it.
-use Rattle.std.proofs.Common.{◌≡◌, ℕ, ◌-◌, ◌<◌, ◌≤◌, ◌^◌, ◌⊎◌, List, [], ◌++◌, length, take, Ok, Err, Option, Some, None, refl, sym, ap, subst, ◌∙◌, append-nil, length-append, arith, inl, inr}
+use Rattle.std.proofs.Common.{◌≡◌, ℕ, ◌-◌, ◌≤◌, ◌^◌, List, ◌++◌, length, Option, Some, None, sym, ap, subst, ◌∙◌, append-nil, length-append, arith, inl, inr}
 use Rattle.std.specs.Prelude.{IfSome}
 use Rattle.std.specs.Io.KnownBytes.{Consumes, IsAtEnd}
 use Rattle.std.proofs.lemmas.Bool.{cases_lt}
 use Rattle.std.proofs.lemmas.List.{take-append-le}
-use Rattle.durability.specs.declared.plan.Plan.{Plan}
-use Rattle.durability.specs.Form.{StopsAt}
 use Rattle.durability.specs.Plan.{plan_at}
-use Rattle.durability.specs.Listing.{Lists, NotYetAt, LineStops, RecordStops, IsReadAs, counted}
+use Rattle.durability.specs.Listing.{Lists, NotYetAt, IsReadAs, counted}
 
 pub read_as : (old new : Option (List ℕ)) (bytes : List ℕ) → Consumes old new bytes → (length bytes ≤ 2 ^ 40 → IsAtEnd new) → IfSome old (λ input. IsReadAs input bytes)
 read_as None new bytes consumed end = tt

@@ -1,34 +1,24 @@
 -- The octets of a capture are records of the form in one way only, up to the first that is not.
-use Rattle.std.proofs.Common.{◌≡◌, ℕ, ◌+◌, ◌-◌, ◌<◌, ◌≤◌, ◌^◌, ◌⊎◌, List, [], ◌∷◌, ◌++◌, length, take, Ok, Err, refl, sym, ap, subst, ◌∙◌, append_assoc, append-nil, length-append, arith, inl, inr}
+use Rattle.std.proofs.Common.{◌≡◌, ℕ, ◌-◌, ◌≤◌, ◌^◌, ◌⊎◌, List, [], ◌∷◌, ◌++◌, length, Ok, Err, refl, sym, ap, subst, ◌∙◌, append_assoc, arith, inl, inr}
 use Rattle.std.specs.List.{flat_map}
 use Rattle.std.proofs.lemmas.List.{take_all}
 use Rattle.std.proofs.lemmas.List.Concat.{flat_map-cons}
 use Rattle.dur_store.specs.History.{entitled}
 use Rattle.durability.specs.declared.plan.Plan.{Plan}
-use Rattle.durability.specs.Capture.{Datagram, record_text, StartsWithRecord, record_here, rest_here}
-use Rattle.durability.specs.Form.{State, begin, step, over, IsGood, AreGood, Admits, IsStopped, StopsAt}
+use Rattle.dur_capture.specs.declared.record.Record.{Record}
+use Rattle.dur_capture.specs.Capture.{record_text}
+use Rattle.dur_capture.proofs.Unique.{same_record}
+use Rattle.durability.specs.Form.{State, begin, step, over, AreGood, IsStopped}
 use Rattle.durability.specs.Plan.{plan_at, Reads}
 use Rattle.durability.specs.Listing.{Lists, NotYetAt, LineStops, RecordStops, counted}
 use Rattle.durability.specs.Text.{list_text}
-use Rattle.durability.proofs.Records.{record_spelled, rest_spelled}
 use Rattle.durability.proofs.Admitted.{nothing_stops}
 
-starts : (writer : List ℕ) (n : ℕ) (d : Datagram) (bytes more : List ℕ) → IsGood writer n d → bytes ≡ record_text d ++ more → StartsWithRecord bytes d more
-starts writer n d bytes more good parts = record { parts = parts; moment = good.moment; port = good.port; short = good.short }
-
-same_record : (bytes : List ℕ) (d e : Datagram) (more after : List ℕ) → StartsWithRecord bytes d more → StartsWithRecord bytes e after → (d ≡ e) × (more ≡ after)
-same_record bytes d e more after p q =
-    let d_is : record_here bytes ≡ d = ap record_here p.parts ∙ record_spelled d more p.moment p.port p.short in
-    let e_is : record_here bytes ≡ e = ap record_here q.parts ∙ record_spelled e after q.moment q.port q.short in
-    let more_is : rest_here bytes ≡ more = ap rest_here p.parts ∙ rest_spelled d more p.short in
-    let after_is : rest_here bytes ≡ after = ap rest_here q.parts ∙ rest_spelled e after q.short in
-    (sym d_is ∙ e_is, sym more_is ∙ after_is)
-
-cons_parts : (d : Datagram) (ds : List Datagram) (rest : List ℕ) → flat_map record_text (d ∷ ds) ++ rest ≡ record_text d ++ (flat_map record_text ds ++ rest)
+cons_parts : (d : Record) (ds : List Record) (rest : List ℕ) → flat_map record_text (d ∷ ds) ++ rest ≡ record_text d ++ (flat_map record_text ds ++ rest)
 cons_parts d ds rest = ap (λ (t : List ℕ). t ++ rest) (flat_map-cons record_text d ds) ∙ append_assoc (record_text d) (flat_map record_text ds) rest
 
 -- two ways to go through the same octets, until no record of the form follows, are one
-one_way : (writer : List ℕ) (s : State) (ds es : List Datagram) (bytes more after : List ℕ)
+one_way : (writer : List ℕ) (s : State) (ds es : List Record) (bytes more after : List ℕ)
     → AreGood writer s ds → bytes ≡ flat_map record_text ds ++ more → IsStopped writer (over s ds) more
     → AreGood writer s es → bytes ≡ flat_map record_text es ++ after → IsStopped writer (over s es) after
     → (ds ≡ es) × (more ≡ after)
@@ -36,11 +26,11 @@ one_way writer s [] [] bytes more after dg dp dstop eg ep estop = (refl, sym dp 
 one_way writer s (d ∷ ds) [] bytes more after dg dp dstop eg ep estop = absurd (estop d (flat_map record_text ds ++ more) dg.0 (sym ep ∙ dp ∙ cons_parts d ds more))
 one_way writer s [] (e ∷ es) bytes more after dg dp dstop eg ep estop = absurd (dstop e (flat_map record_text es ++ after) eg.0 (sym dp ∙ ep ∙ cons_parts e es after))
 one_way writer s (d ∷ ds) (e ∷ es) bytes more after dg dp dstop eg ep estop =
-    let same = same_record bytes d e (flat_map record_text ds ++ more) (flat_map record_text es ++ after) (starts writer s.next d bytes _ dg.0 (dp ∙ cons_parts d ds more)) (starts writer s.next e bytes _ eg.0 (ep ∙ cons_parts e es after)) in
-    let eg_here : AreGood writer (step s d) es = subst (λ (x : Datagram). AreGood writer (step s x) es) (sym same.0) eg.1 in
-    let estop_here : IsStopped writer (over (step s d) es) after = subst (λ (x : Datagram). IsStopped writer (over (step s x) es) after) (sym same.0) estop in
+    let same = same_record bytes d e (flat_map record_text ds ++ more) (flat_map record_text es ++ after) dg.0.fits (dp ∙ cons_parts d ds more) eg.0.fits (ep ∙ cons_parts e es after) in
+    let eg_here : AreGood writer (step s d) es = subst (λ (x : Record). AreGood writer (step s x) es) (sym same.0) eg.1 in
+    let estop_here : IsStopped writer (over (step s d) es) after = subst (λ (x : Record). IsStopped writer (over (step s x) es) after) (sym same.0) estop in
     let later = one_way writer (step s d) ds es (flat_map record_text ds ++ more) more after dg.1 refl dstop eg_here same.1 estop_here in
-    (ap (λ (x : Datagram). x ∷ ds) same.0 ∙ ap (λ (xs : List Datagram). e ∷ xs) later.0, later.1)
+    (ap (λ (x : Record). x ∷ ds) same.0 ∙ ap (λ (xs : List Record). e ∷ xs) later.0, later.1)
 
 -- a plan is read in one way
 value_of : Plan × List ℕ → Reads Plan → Plan × List ℕ
@@ -70,7 +60,7 @@ text_once input a b p q =
     let way = one_way p.plan.writer begin p.records q.records p.capture [] [] p.admits.good p.admits.parts (nothing_stops p.plan.writer (over begin p.records)) q_good (same.1 ∙ q.admits.parts) (nothing_stops p.plan.writer (over begin q.records)) in
     p.text_is
     ∙ ap (λ (x : Plan). list_text x.topic (entitled x.depth (over begin p.records).entries)) same.0
-    ∙ ap (λ (rs : List Datagram). list_text q.plan.topic (entitled q.plan.depth (over begin rs).entries)) way.0
+    ∙ ap (λ (rs : List Record). list_text q.plan.topic (entitled q.plan.depth (over begin rs).entries)) way.0
     ∙ sym q.text_is
 
 -- an input that has a text stops nowhere

@@ -1,4 +1,3 @@
-pub mod Capture
 pub mod CommandLine
 pub mod Form
 pub mod Listing

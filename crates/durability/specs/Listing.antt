@@ -2,7 +2,7 @@
 use Rattle.std.specs.Prelude.{◌≡◌, ℕ, ◌-◌, ◌<◌, ◌≤◌, ◌^◌, ◌⊎◌, List, [], length, take, Ok, Err}
 use Rattle.dur_store.specs.History.{entitled}
 use Rattle.durability.specs.declared.plan.Plan.{Plan}
-use Rattle.durability.specs.Capture.{Datagram}
+use Rattle.dur_capture.specs.declared.record.Record.{Record}
 use Rattle.durability.specs.Plan.{plan_at}
 use Rattle.durability.specs.Form.{begin, over, Admits, StopsAt}
 use Rattle.durability.specs.Text.{list_text}
@@ -23,7 +23,7 @@ pub record IsReadAs (input bytes : List ℕ) : Type 0 where
 pub record Lists (input text : List ℕ) : Type 0 where
   pub plan : Plan
   pub capture : List ℕ
-  pub records : List Datagram
+  pub records : List Record
   pub short : length input ≤ 2 ^ 40
   pub plan_is : plan_at input ≡ Ok (plan, capture)
   pub admits : Admits plan.writer capture records []

@@ -1,6 +1,6 @@
 -- The plan in front of a capture: a prefix line, the line of a transient topic with a key hash and a
 -- depth and without limits, the line of a writer of that topic without a lease, and `end`.
-use Rattle.std.specs.Prelude.{◌≡◌, ℕ, ◌==◌, ◌&&◌, Bool, true, false, if◌then◌else◌, List, [], ◌∷◌, take, drop, length, position, Some, None, Ok, Err, option_map}
+use Rattle.std.specs.Prelude.{◌≡◌, ℕ, ◌==◌, ◌&&◌, Bool, true, false, if◌then◌else◌, List, take, drop, length, position, Some, None, Ok, Err, option_map}
 use Rattle.std.specs.Option.{is_none}
 use Rattle.std.specs.Str.{bytes_eq}
 use Rattle.std.specs.declared.option.Option.{Option}

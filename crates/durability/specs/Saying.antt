@@ -1,6 +1,6 @@
 -- How far a text went out.
 use Rattle.std.specs.Prelude.{◌≡◌, ℕ, ◌++◌, List, take, drop}
-use Rattle.dur_outside.specs.World.{Image, World}
+use Rattle.dur_outside.specs.World.{Image}
 
 -- the outside once this text was written to the sink: no file is changed
 abbrev pub wrote : List ℕ → Image → Image

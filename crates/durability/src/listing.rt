@@ -35,7 +35,8 @@ fn is_long(input: &[u8]) -> bool
 
 /// The octets of an input that count.
 fn front_of<'a>(input: &'a [u8]) -> &'a [u8]
-    ensures { result.now ≡ counted input.now }
+    ensures counted { result.now ≡ counted input.now }
+    ensures short { length result.now ≤ 2 ^ 40 }
 {
     if input.len() > MOST {
         input.split_at(MOST).0

@@ -2,7 +2,6 @@
 #![tactic(auto)]
 
 mod admit;
-mod capture;
 mod input;
 mod laws;
 mod listing;

@@ -1,4 +1,4 @@
-use Rattle.std.proofs.Common.{ℕ, ◌≤◌, length}
+use Rattle.std.proofs.Common.{◌≤◌, length}
 use Rattle.durability.specs.Saying.{IsSaying}
 use Rattle.durability.proofs.say.say.Given as goal
 
