@@ -1,0 +1,6 @@
+pub mod Cuts
+pub mod Maps
+pub mod Runs
+pub mod Texts
+pub mod Goods
+pub mod Outcomes
