@@ -1,15 +1,14 @@
 -- The plan of a text is good.
-use Rattle.std.proofs.Common.{◌≡◌, ℕ, suc, ◌+◌, ◌<◌, ◌≤◌, List, [], ◌∷◌, ◌++◌, length, refl, sym, ap, subst, ◌∙◌, append_assoc, append-nil, length-append, arith, Bool, true, false, cond, Option, Some, None, Result, Ok, Err, inl, inr, ◌⊎◌}
+use Rattle.std.proofs.Common.{◌≡◌, ℕ, ◌+◌, ◌<◌, ◌≤◌, List, [], ◌∷◌, ◌++◌, length, refl, sym, ap, subst, ◌∙◌, append_assoc, append-nil, length-append, arith, Bool, true, false, cond, Option, Some, None, Result, Ok, Err, inl, inr, ◌⊎◌}
 use Rattle.std.specs.Prelude.{◌&&◌, nat_le, nat_lt, IsTrue, IfSome, IfOk, OnErr, codes}
-use Rattle.std.specs.List.{AllByRecursion, flat_map}
+use Rattle.std.specs.List.{AllByRecursion}
 use Rattle.std.specs.Str.{bytes_eq}
 use Rattle.std.specs.Option.{is_some}
-use Rattle.std.proofs.lemmas.Bool.{cases_Bool, leb-true, leb-false, ltb-true}
+use Rattle.std.proofs.lemmas.Bool.{leb-true, leb-false, ltb-true}
 use Rattle.dur_qos.specs.declared.fault.PlanKind.{PlanKind}
-use Rattle.dur_qos.specs.declared.fault.PlanKind.TheVariants.{Word, Number, Twice, DepthAboveLimit, TooMany, UnknownTopic}
+use Rattle.dur_qos.specs.declared.fault.PlanKind.TheVariants.{Word, Number, Twice, DepthAboveLimit, TooMany}
 use Rattle.dur_base.specs.declared.kinds.Durability.{Durability}
-use Rattle.dur_base.specs.declared.kinds.Durability.TheVariants.{Volatile, TransientLocal, Transient, Persistent}
-use Rattle.dur_base.specs.declared.kinds.Shape.{Shape}
+use Rattle.dur_base.specs.declared.kinds.Durability.TheVariants.{Transient, Persistent}
 use Rattle.dur_qos.specs.declared.plan.Topic.{Topic}
 use Rattle.dur_qos.specs.declared.line.Line.{Line}
 use Rattle.dur_qos.specs.declared.line.Line.TheVariants as line
@@ -17,13 +16,13 @@ use Rattle.dur_qos.specs.declared.plan.Plan.{Plan}
 use Rattle.dur_qos.specs.declared.plan.WriterLine.{WriterLine}
 use Rattle.dur_qos.specs.declared.plan.ReaderLine.{ReaderLine}
 use Rattle.dur_base.specs.Names.{is_name}
-use Rattle.dur_qos.specs.Digits.{number_of, is_number, value_after, hex_of}
-use Rattle.dur_qos.specs.Words.{words, word, good, last, Reads, ◌>>=◌}
-use Rattle.dur_qos.specs.Lines.{topic_kind_of, reader_kind_of, shape_of, positive, history_of, limit_of, name_of, name_at, topic_kind_at, reader_kind_at, shape_at, history_at, limit_at, delay_at, prefix_at, guid_at, prefix_line, topic_line, writer_line, reader_line, line_by, line_at}
+use Rattle.dur_qos.specs.Digits.{number_of, is_number, value_after}
+use Rattle.dur_qos.specs.Words.{words, word, good, last, ◌>>=◌}
+use Rattle.dur_qos.specs.Lines.{topic_kind_of, positive, history_of, limit_of, name_of, name_at, topic_kind_at, reader_kind_at, shape_at, history_at, limit_at, delay_at, prefix_at, guid_at, prefix_line, topic_line, writer_line, reader_line, line_by, line_at}
 use Rattle.dur_qos.specs.Served.{rank}
-use Rattle.dur_qos.specs.Plan.{place_of, place_from, has_writer, has_reader, is_above, add, add_topic, add_writer, add_reader, writer_to, reader_to}
+use Rattle.dur_qos.specs.Plan.{place_of, place_from, has_writer, has_reader, is_above, add_topic, add_writer, add_reader, writer_to, reader_to}
 use Rattle.dur_qos.specs.Reading.{Next, first, added, later, whole_line}
-use Rattle.dur_qos.specs.Text.{GoesOn, Lines, PlanText}
+use Rattle.dur_qos.specs.Text.{GoesOn, PlanText}
 use Rattle.dur_qos.specs.Good.{IsLimit, IsGoodTopic, EachIsNew, IsGoodWriter, IsGoodReader, GoodPlan, IsGoodLine}
 
 -- ---- a reading that succeeds, step by step

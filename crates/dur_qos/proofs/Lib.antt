@@ -4,3 +4,4 @@ pub mod Runs
 pub mod Texts
 pub mod Goods
 pub mod Outcomes
+pub mod Verdicts

@@ -1,7 +1,7 @@
 -- Each text is the text of a plan, breaks at a line, or is unfinished.
-use Rattle.std.proofs.Common.{◌≡◌, ℕ, ◌+◌, ◌<◌, ◌≤◌, List, [], ◌∷◌, ◌++◌, length, refl, sym, ap, subst, ◌∙◌, append_assoc, append-nil, length-append, arith, Bool, true, false, Option, Some, None, Result, Ok, Err, inl, inr, ◌⊎◌}
+use Rattle.std.proofs.Common.{◌≡◌, ℕ, ◌+◌, ◌≤◌, List, [], ◌∷◌, ◌++◌, length, refl, sym, ap, subst, ◌∙◌, append_assoc, append-nil, length-append, arith, Bool, true, false, Option, Some, None, Result, Ok, Err, inl, inr, ◌⊎◌}
 use Rattle.std.specs.Prelude.{◌==◌}
-use Rattle.std.specs.List.{flat_map, AllByRecursion}
+use Rattle.std.specs.List.{flat_map}
 use Rattle.std.proofs.lemmas.Bool.{cases_Bool, cases_lt}
 use Rattle.std.proofs.lemmas.List.{flat_map_more}
 use Rattle.dur_qos.specs.declared.fault.PlanKind.{PlanKind}
@@ -9,7 +9,7 @@ use Rattle.dur_qos.specs.declared.fault.PlanKind.TheVariants.{Word}
 use Rattle.dur_qos.specs.declared.fault.PlanFault.{PlanFault}
 use Rattle.dur_qos.specs.declared.plan.Plan.{Plan}
 use Rattle.dur_qos.specs.Reading.{Next, whole_line}
-use Rattle.dur_qos.specs.Text.{line_text, HasNoFeed, GoesOn, Lines, PlanText, BreaksAt, Unfinished}
+use Rattle.dur_qos.specs.Text.{line_text, HasNoFeed, GoesOn, PlanText, BreaksAt, Unfinished}
 
 abbrev pub Outcome : List ℕ → Type 0
 Outcome bytes = ((plan : Plan) × (n : ℕ) × PlanText bytes plan n) ⊎ (((fault : PlanFault) × BreaksAt bytes fault) ⊎ ((line : ℕ) × Unfinished bytes line))

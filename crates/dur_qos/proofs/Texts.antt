@@ -1,6 +1,6 @@
 -- The reading of a text by its lines.
-use Rattle.std.proofs.Common.{◌≡◌, ℕ, suc, ◌+◌, ◌-◌, ◌<◌, ◌≤◌, List, [], ◌∷◌, ◌++◌, length, refl, sym, ap, subst, ◌∙◌, append_assoc, append-nil, length-append, arith, Bool, true, false, cond, Option, Some, None, Result, Ok, Err, inl, inr}
-use Rattle.std.specs.Prelude.{◌==◌, ◌||◌, nat_le}
+use Rattle.std.proofs.Common.{◌≡◌, ℕ, ◌+◌, ◌<◌, ◌≤◌, List, [], ◌∷◌, ◌++◌, length, refl, sym, ap, ◌∙◌, append_assoc, append-nil, length-append, arith, Bool, true, false, cond, Option, Some, None, Result, inl, inr}
+use Rattle.std.specs.Prelude.{◌==◌, nat_le}
 use Rattle.std.specs.List.{flat_map}
 use Rattle.std.proofs.lemmas.List.Concat.{flat_map-cons}
 use Rattle.dur_qos.specs.declared.fault.PlanKind.{PlanKind}
@@ -10,7 +10,7 @@ use Rattle.dur_qos.specs.declared.plan.Plan.{Plan}
 use Rattle.dur_qos.specs.Reading.{Reading, Next, octet, after, taken, is_done, start, stops, ends_line, whole_line}
 use Rattle.dur_qos.specs.Text.{line_text, HasNoFeed, GoesOn, Lines, PlanText, BreaksAt, Unfinished}
 use Rattle.std.proofs.lemmas.Bool.{lt-leb, le-leb}
-use Rattle.dur_qos.proofs.Runs.{done_stays, done_takes, ended_done, faulty_done, step_after, step_taken, taken_append, open_takes_all}
+use Rattle.dur_qos.proofs.Runs.{done_stays, done_takes, faulty_done, step_after, step_taken, taken_append, open_takes_all}
 
 -- at the beginning of a line
 abbrev at : Option Plan → ℕ → Reading

@@ -1,5 +1,5 @@
 -- What the lines of a plan add up to.
-use Rattle.std.specs.Prelude.{◌≡◌, ℕ, ◌+◌, Bool, true, false, List, [], ◌∷◌, ◌++◌, length, Some, None, Ok, Err, if◌then◌else◌, cond, nat_lt, nat_le}
+use Rattle.std.specs.Prelude.{ℕ, ◌+◌, Bool, true, false, List, [], ◌∷◌, ◌++◌, length, Some, None, Ok, Err, if◌then◌else◌, nat_lt, nat_le}
 use Rattle.std.specs.Str.{bytes_eq}
 use Rattle.std.specs.Option.{is_some}
 use Rattle.std.specs.declared.option.Option.{Option}
@@ -9,7 +9,7 @@ use Rattle.dur_qos.specs.declared.plan.Topic.{Topic}
 use Rattle.dur_qos.specs.declared.line.Line.{Line}
 use Rattle.dur_qos.specs.declared.line.Line.TheVariants as line
 use Rattle.dur_qos.specs.declared.fault.PlanKind.{PlanKind}
-use Rattle.dur_qos.specs.declared.fault.PlanKind.TheVariants.{Word, Twice, UnknownTopic, DepthAboveLimit, TooMany}
+use Rattle.dur_qos.specs.declared.fault.PlanKind.TheVariants.{Twice, UnknownTopic, DepthAboveLimit, TooMany}
 use Rattle.dur_qos.specs.declared.plan.Plan.{Plan}
 use Rattle.dur_qos.specs.declared.plan.WriterLine.{WriterLine}
 use Rattle.dur_qos.specs.declared.plan.ReaderLine.{ReaderLine}

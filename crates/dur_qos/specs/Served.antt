@@ -1,5 +1,5 @@
 -- Who is served, and under which ids.
-use Rattle.std.specs.Prelude.{◌≡◌, ℕ, ◌+◌, ◌≤◌, List, [], ◌∷◌, ◌++◌, Some, None, slice_get, slice_index_or}
+use Rattle.std.specs.Prelude.{ℕ, ◌+◌, ◌≤◌, List, [], ◌∷◌, ◌++◌, Some, None, slice_get, slice_index_or}
 use Rattle.std.specs.Int.{w16, to_be_bytes}
 use Rattle.std.specs.declared.option.Option.{Option}
 use Rattle.dur_base.specs.declared.kinds.Durability.{Durability}

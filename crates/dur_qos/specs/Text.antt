@@ -1,13 +1,11 @@
 -- The text of a plan by its lines, and where it breaks.
-use Rattle.std.specs.Prelude.{◌≡◌, ℕ, ◌+◌, ◌==◌, ◌≤◌, ◌⊎◌, Bool, true, false, List, [], ◌∷◌, ◌++◌, length, Some, None, Ok, Err}
+use Rattle.std.specs.Prelude.{◌≡◌, ℕ, ◌+◌, ◌==◌, ◌≤◌, ◌⊎◌, true, false, List, [], ◌∷◌, ◌++◌, length, Some, None, Ok, Err}
 use Rattle.std.specs.List.{flat_map, AllByRecursion}
 use Rattle.std.specs.declared.option.Option.{Option}
-use Rattle.std.specs.declared.result.Result.{Result}
-use Rattle.dur_qos.specs.declared.fault.PlanKind.{PlanKind}
 use Rattle.dur_qos.specs.declared.fault.PlanKind.TheVariants.{Word}
 use Rattle.dur_qos.specs.declared.fault.PlanFault.{PlanFault}
 use Rattle.dur_qos.specs.declared.plan.Plan.{Plan}
-use Rattle.dur_qos.specs.Reading.{Next, whole_line}
+use Rattle.dur_qos.specs.Reading.{whole_line}
 
 -- a line, and its line feed
 abbrev pub line_text : List ℕ → List ℕ
@@ -59,3 +57,7 @@ pub record Unfinished (bytes : List ℕ) (line : ℕ) : Type 0 where
   pub feed : HasNoFeed part
   pub short : length part ≤ 512
   pub place : line ≡ count + 1
+
+-- what is wrong with a text: its first break, or a bad word in the line in which it ends
+abbrev pub IsFault : List ℕ → PlanFault → Type 0
+IsFault bytes fault = BreaksAt bytes fault ⊎ (Unfinished bytes fault.line × (fault.kind ≡ Word))

@@ -1,12 +1,10 @@
 -- The words of a line, and what each may say.
-use Rattle.std.specs.Prelude.{◌≡◌, ℕ, ◌+◌, ◌*◌, ◌-◌, ◌==◌, ◌&&◌, ◌||◌, Bool, true, false, not, List, [], ◌∷◌, length, take, drop, slice_index, Some, None, Ok, Err, if◌then◌else◌, nat_lt, nat_le, codes, option_map}
-use Rattle.std.specs.List.{list_all, slice_split}
-use Rattle.std.specs.Str.{bytes_eq}
+use Rattle.std.specs.Prelude.{◌≡◌, ℕ, ◌==◌, List, [], ◌∷◌, Some, None, Ok, Err}
+use Rattle.std.specs.List.{slice_split}
 use Rattle.std.specs.declared.option.Option.{Option}
 use Rattle.std.specs.declared.result.Result.{Result}
-use Rattle.dur_base.specs.Names.{is_name}
 use Rattle.dur_qos.specs.declared.fault.PlanKind.{PlanKind}
-use Rattle.dur_qos.specs.declared.fault.PlanKind.TheVariants.{Word, Number}
+use Rattle.dur_qos.specs.declared.fault.PlanKind.TheVariants.{Word}
 
 -- the words of a line are parted by one space
 abbrev pub words : List ℕ → List (List ℕ)

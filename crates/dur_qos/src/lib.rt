@@ -12,6 +12,7 @@ mod plan;
 mod reader;
 mod serving;
 mod values;
+mod whole;
 mod word;
 
 pub use fault::{PlanFault, PlanKind};
@@ -19,6 +20,7 @@ pub use laws::readings;
 pub use plan::{Plan, ReaderLine, Topic, WriterLine};
 pub use reader::PlanReader;
 pub use serving::{reader_id, replay_id, served};
+pub use whole::read_plan;
 
 #[cfg(test)]
 mod tests;

@@ -3,7 +3,7 @@
 ghost use Rattle.std.specs.Prelude.{IfOk};
 ghost use Rattle.dur_qos.specs.Good.{GoodPlan};
 
-use crate::{Plan, PlanFault, PlanKind, PlanReader, reader_id, replay_id, served};
+use crate::{Plan, PlanFault, PlanKind, PlanReader, read_plan, reader_id, replay_id, served};
 use dur_base::{Durability, EntityId, Shape};
 use std::alloc::Global;
 
@@ -59,6 +59,18 @@ fn a_plan_is_read_octet_by_octet(rt: HostRuntime) {
             }
             assert!(rt; plan.writers.len() == 1 && plan.readers.len() == 1);
         }
+        Err(_) => assert!(rt; false),
+    }
+}
+
+#[test]
+fn a_plan_is_read_from_two_pieces(rt: HostRuntime) {
+    let alloc = rt.alloc();
+    let front = Vec::from_slice(alloc, FOUR).expect(&rt, "memory");
+    let back = Vec::from_slice(alloc, b"end\nx").expect(&rt, "memory");
+    let pieces = vec![in alloc; front, back].expect(&rt, "memory");
+    match read_plan(alloc, &pieces) {
+        Ok(plan) => assert!(rt; plan.topics.len() == 1 && plan.readers.len() == 1),
         Err(_) => assert!(rt; false),
     }
 }

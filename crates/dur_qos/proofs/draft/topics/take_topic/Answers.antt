@@ -1,4 +1,4 @@
-use Rattle.std.proofs.Common.{List, refl, ap, arith}
+use Rattle.std.proofs.Common.{List, refl, ap}
 use Rattle.dur_qos.specs.declared.plan.Topic.{Topic}
 use Rattle.dur_qos.proofs.Maps.{topic_added}
 use Rattle.dur_qos.proofs.draft.topics.take_topic.Goals as goal
