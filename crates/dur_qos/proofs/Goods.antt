@@ -55,7 +55,7 @@ and_right false b e = absurd cc
 number_small : (w : List ℕ) (n : ℕ) → number_of w ≡ Some n → n ≤ 2147483647
 unfolding number_of
 number_small w n e = elim (chosen (is_number w && nat_le (value_after 0 w) 2147483647) (Some (value_after 0 w)) None (Some n) e) [
-  | inl h ↦ let same : value_after 0 w ≡ n = cc (h.1) in let le : value_after 0 w ≤ 2147483647 = leb-true _ _ (and_right _ _ h.0) in omega arith
+  | inl h ↦ let same : value_after 0 w ≡ n = cc (h.1) in let le : value_after 0 w ≤ 2147483647 = leb-true (value_after 0 w) 2147483647 (and_right (is_number w) (nat_le (value_after 0 w) 2147483647) h.0) in omega arith
   | inr h ↦ let no_value : None ≡ Some n = h.1 in absurd cc
 ]
 
@@ -133,7 +133,7 @@ topic_good ws l e =
       max_held = limit_good per_instance.0.1 held.0 held.1;
       delay = delay_good held.0.1 delay.0 delay.1;
     } in
-    subst IsGoodLine (last_ok (line.Topic t) l delay.0.1 delay.2) fits
+    subst IsGoodLine {x = line.Topic t} (last_ok (line.Topic t) l delay.0.1 delay.2) fits
 
 writer_good : (ws : List (List ℕ)) (l : Line) → writer_line ws ≡ Ok l → IsGoodLine l
 unfolding writer_line

@@ -1,11 +1,12 @@
 -- Runs of octets.
-use Rattle.std.proofs.Common.{◌≡◌, ℕ, ◌+◌, ◌-◌, ◌≤◌, List, [], ◌∷◌, ◌++◌, length, take, drop, get_or, refl, sym, ap, ◌∙◌, arith, Bool, true, false, cond, Option, Some, None, inl, inr}
+use Rattle.std.proofs.Common.{◌≡◌, ℕ, ◌+◌, ◌-◌, ◌≤◌, List, [], ◌∷◌, ◌++◌, length, take, drop, get_or, refl, sym, ap, ◌∙◌, arith, Bool, true, false, cond, Option, Some, None, inl, inr, append_assoc, ◌⊎◌}
 use Rattle.std.proofs.lemmas.Bool.{cases_Bool}
 use Rattle.std.specs.Prelude.{◌||◌}
 use Rattle.std.specs.Option.{is_some}
 use Rattle.std.proofs.lemmas.List.{take_rest}
 use Rattle.dur_qos.specs.declared.fault.PlanFault.{PlanFault}
-use Rattle.dur_qos.specs.Reading.{Reading, octet, after, taken, is_done}
+use Rattle.dur_qos.specs.declared.fault.PlanKind.TheVariants.{OutOfMemory}
+use Rattle.dur_qos.specs.Reading.{Reading, octet, after, taken, stops, RunsOut, is_done}
 
 or_true : (a : Bool) → (a || true) ≡ true
 or_true true = refl
@@ -79,4 +80,30 @@ open_takes_all r (x ∷ xs) h = elim (cases_Bool (is_done r)) [
       let front : taken r (x ∷ xs) ≡ 1 + taken (octet r x) xs = ap (λ (d : Bool). cond d 0 (1 + taken (octet r x) xs)) e in
       let more : is_done (after (octet r x) xs) ≡ false = ap (λ (d : Bool). is_done (cond d r (after (octet r x) xs))) (sym e) ∙ h in
       omega (arith, front, open_takes_all (octet r x) xs more)
+]
+
+-- a run over pieces, one octet further
+pub one_further : (old r new : Reading) (b : ℕ) (seen rest piece : List ℕ) → 1 ≤ length rest → b ≡ get_or rest 0 0 → r ≡ after old seen → seen ++ rest ≡ piece → r.ended ≡ false → r.fault ≡ None → new ≡ octet r b
+    → (new ≡ after old (seen ++ b ∷ [])) × ((seen ++ b ∷ []) ++ take (length rest - 1) (drop 1 rest) ≡ piece)
+    × (after new (take (length rest - 1) (drop 1 rest)) ≡ after r rest) × (taken r rest ≡ 1 + taken new (take (length rest - 1) (drop 1 rest)))
+one_further old r new b seen rest piece some is reads parts ended sound step =
+    let later = take (length rest - 1) (drop 1 rest) in
+    let spelt : rest ≡ b ∷ later = spelled rest some ∙ ap (λ (x : ℕ). x ∷ later) (sym is) in
+    let one : octet r b ≡ after r (b ∷ []) = sym (step_after r b [] ended sound) in (
+      step ∙ one ∙ ap (λ (x : Reading). after x (b ∷ [])) reads ∙ sym (after_append old seen (b ∷ [])),
+      append_assoc seen (b ∷ []) later ∙ ap (λ (t : List ℕ). seen ++ t) (sym spelt) ∙ parts,
+      ap (λ (x : Reading). after x later) step ∙ sym (step_after r b later ended sound) ∙ ap (after r) (sym spelt),
+      ap (taken r) spelt ∙ step_taken r b later ended sound ∙ ap (λ (x : Reading). 1 + taken x later) (sym step),
+    )
+
+-- memory ran out, or the fault is that of all the octets
+pub piece_stops : (old r new : Reading) (b : ℕ) (seen rest piece : List ℕ) → 1 ≤ length rest → b ≡ get_or rest 0 0 → r ≡ after old seen → seen ++ rest ≡ piece → r.ended ≡ false → r.fault ≡ None → (e : PlanFault)
+    → (new.fault ≡ Some e) × ((new ≡ stops r OutOfMemory) ⊎ (new ≡ octet r b)) → (new.fault ≡ Some e) × (RunsOut old piece new ⊎ (new ≡ after old piece))
+piece_stops old r new b seen rest piece some is reads parts ended sound e err = elim err.1 [
+  | inl out ↦ (err.0, inl (seen, rest, sym parts, omega arith, out ∙ ap (λ (x : Reading). stops x OutOfMemory) reads))
+  | inr step ↦
+      let on = one_further old r new b seen rest piece some is reads parts ended sound step in
+      let later = take (length rest - 1) (drop 1 rest) in
+      let whole : after old piece ≡ after new later = ap (after old) (sym on.1) ∙ after_append old (seen ++ b ∷ []) later ∙ ap (λ (x : Reading). after x later) (sym on.0) in
+      (err.0, inr (sym (whole ∙ done_stays new later (faulty_done new e err.0))))
 ]

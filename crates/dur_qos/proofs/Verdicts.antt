@@ -7,7 +7,7 @@ use Rattle.dur_qos.specs.declared.fault.PlanKind.{PlanKind}
 use Rattle.dur_qos.specs.declared.fault.PlanKind.TheVariants.{Word, OutOfMemory}
 use Rattle.dur_qos.specs.declared.fault.PlanFault.{PlanFault}
 use Rattle.dur_qos.specs.declared.plan.Plan.{Plan}
-use Rattle.dur_qos.specs.Reading.{Reading, start, after}
+use Rattle.dur_qos.specs.Reading.{Reading, RunsOut, start, after}
 use Rattle.dur_qos.specs.Text.{PlanText, BreaksAt, Unfinished, IsFault}
 use Rattle.dur_qos.proofs.Runs.{after_append, done_stays, faulty_done}
 use Rattle.dur_qos.proofs.Texts.{text_read, break_told, unfinished_read}
@@ -128,9 +128,13 @@ finish_says bytes r (Err e) is ok err = elim err [
 ]
 
 pub push_says : (bytes seen piece more : List ℕ) (r g : Reading) (e : PlanFault) → r ≡ after start seen → (seen ++ piece) ++ more ≡ bytes
-    → (g.fault ≡ Some e) × ((e.kind ≡ OutOfMemory) ⊎ (g ≡ after r piece)) → Says bytes (Err e)
+    → (g.fault ≡ Some e) × (RunsOut r piece g ⊎ (g ≡ after r piece)) → Says bytes (Err e)
 push_says bytes seen piece more r g e is all err = elim err.1 [
-  | inl memory ↦ (tt, inl memory)
+  | inl out ↦
+      let memory : PlanFault = record { line = (after r out.0).line; kind = OutOfMemory } in
+      let both : Some memory ≡ Some e = ap (λ (x : Reading). x.fault) (sym out.4) ∙ err.0 in
+      let same : memory ≡ e = cc in
+      (tt, inl (ap (λ (x : PlanFault). x.kind) (sym same)))
   | inr read ↦
       let whole : g ≡ after start (seen ++ piece) = read ∙ ap (λ (x : Reading). after x piece) is ∙ sym (after_append start seen piece) in
       let told : (after start (seen ++ piece)).fault ≡ Some e = ap (λ (x : Reading). x.fault) (sym whole) ∙ err.0 in

@@ -1,12 +1,12 @@
 -- A plan's text, octet by octet.
-use Rattle.std.specs.Prelude.{ℕ, ◌+◌, ◌==◌, ◌||◌, Bool, true, false, List, [], ◌∷◌, ◌++◌, length, Some, None, Ok, Err, if◌then◌else◌, nat_le}
+use Rattle.std.specs.Prelude.{◌≡◌, ℕ, ◌+◌, ◌<◌, ◌==◌, ◌||◌, Bool, true, false, List, [], ◌∷◌, ◌++◌, length, Some, None, Ok, Err, if◌then◌else◌, nat_le}
 use Rattle.std.specs.Option.{is_some}
 use Rattle.std.specs.declared.option.Option.{Option}
 use Rattle.std.specs.declared.result.Result.{Result}
 use Rattle.dur_qos.specs.declared.line.Line.{Line}
 use Rattle.dur_qos.specs.declared.line.Line.TheVariants as line
 use Rattle.dur_qos.specs.declared.fault.PlanKind.{PlanKind}
-use Rattle.dur_qos.specs.declared.fault.PlanKind.TheVariants.{Word}
+use Rattle.dur_qos.specs.declared.fault.PlanKind.TheVariants.{Word, OutOfMemory}
 use Rattle.dur_qos.specs.declared.fault.PlanFault.{PlanFault}
 use Rattle.dur_qos.specs.declared.plan.Plan.{Plan}
 use Rattle.dur_qos.specs.Lines.{line_at}
@@ -77,6 +77,10 @@ after r (b ∷ bs) = if is_done r then r else after (octet r b) bs
 abbrev pub taken : Reading → List ℕ → ℕ
 taken r [] = 0
 taken r (b ∷ bs) = if is_done r then 0 else 1 + taken (octet r b) bs
+
+-- memory runs out at one of these octets: those before it are read, and the fault is told at the line that has begun
+abbrev pub RunsOut : Reading → List ℕ → Reading → Type 0
+RunsOut old piece new = (front : List ℕ) × (more : List ℕ) × (piece ≡ front ++ more) × (0 < length more) × (new ≡ stops (after old front) OutOfMemory)
 
 abbrev pub start : Reading
 start = record { plan = None; part = []; line = 1; ended = false; fault = None }

@@ -2,6 +2,7 @@
 use Rattle.std.specs.Prelude.{◌≡◌, ℕ, ◌+◌, ◌==◌, ◌≤◌, ◌⊎◌, true, false, List, [], ◌∷◌, ◌++◌, length, Some, None, Ok, Err}
 use Rattle.std.specs.List.{flat_map, AllByRecursion}
 use Rattle.std.specs.declared.option.Option.{Option}
+use Rattle.dur_qos.specs.declared.fault.PlanKind.{PlanKind}
 use Rattle.dur_qos.specs.declared.fault.PlanKind.TheVariants.{Word}
 use Rattle.dur_qos.specs.declared.fault.PlanFault.{PlanFault}
 use Rattle.dur_qos.specs.declared.plan.Plan.{Plan}
@@ -38,7 +39,15 @@ pub record PlanText (bytes : List ℕ) (plan : Plan) (n : ℕ) : Type 0 where
   pub says : whole_line before last ≡ Ok (record { plan = plan; ended = true })
   pub size : n + length more ≡ length bytes
 
--- a line is at fault, whatever follows
+-- a whole line that is at fault
+abbrev pub BadLine : Option Plan → List ℕ → PlanKind → Type 0
+BadLine before bad kind = (l : List ℕ) × (bad ≡ line_text l) × HasNoFeed l × (length l ≤ 512) × (whole_line before l ≡ Err kind)
+
+-- 512 octets of a line, and one more that is no line feed
+abbrev pub LongLine : List ℕ → PlanKind → Type 0
+LongLine bad kind = (l : List ℕ) × (b : ℕ) × (bad ≡ l ++ b ∷ []) × HasNoFeed l × (length l ≡ 512) × ((b == 10) ≡ false) × (kind ≡ Word)
+
+-- after lines that are read a line is at fault, whatever follows
 pub record BreaksAt (bytes : List ℕ) (fault : PlanFault) : Type 0 where
   pub count : ℕ
   pub before : Option Plan
@@ -46,7 +55,7 @@ pub record BreaksAt (bytes : List ℕ) (fault : PlanFault) : Type 0 where
   pub more : List ℕ
   pub lines : Lines bytes count before (bad ++ more)
   pub place : fault.line ≡ count + 1
-  pub breaks : ((l : List ℕ) × (bad ≡ line_text l) × HasNoFeed l × (length l ≤ 512) × (whole_line before l ≡ Err fault.kind)) ⊎ ((l : List ℕ) × (b : ℕ) × (bad ≡ l ++ b ∷ []) × HasNoFeed l × (length l ≡ 512) × ((b == 10) ≡ false) × (fault.kind ≡ Word))
+  pub breaks : BadLine before bad fault.kind ⊎ LongLine bad fault.kind
 
 -- the lines of a text are read, none is the last, and the input ends in the line after them, or at its beginning
 pub record Unfinished (bytes : List ℕ) (line : ℕ) : Type 0 where

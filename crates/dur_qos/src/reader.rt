@@ -2,7 +2,7 @@
 
 ghost use Rattle.std.specs.Prelude.{◌≡◌, ◌⊎◌, Some, None, true, false, IfOk, IfErr, IfSome, OnOk, Err};
 ghost use Rattle.dur_qos.specs.Good.{GoodPlan};
-ghost use Rattle.dur_qos.specs.Reading.{start, octet, after, taken, ends_line, whole_line};
+ghost use Rattle.dur_qos.specs.Reading.{start, octet, after, taken, stops, RunsOut, ends_line, whole_line};
 
 use crate::draft::{Draft, take_line};
 use crate::{Plan, PlanFault, PlanKind};
@@ -58,7 +58,7 @@ impl PlanReader {
         requires open { self.old.ended ≡ false }
         ensures ok { OnOk result (self.new ≡ ends_line self.old (whole_line self.old.plan self.old.part)) }
         ensures sound { OnOk result (self.new.fault ≡ None) }
-        ensures err { IfErr result (λ e. (self.new.fault ≡ Some e) × ((e.kind ≡ PlanKind.OutOfMemory) ⊎ (self.new ≡ ends_line self.old (whole_line self.old.plan self.old.part)))) }
+        ensures err { IfErr result (λ e. (self.new.fault ≡ Some e) × ((self.new ≡ stops self.old PlanKind.OutOfMemory) ⊎ (self.new ≡ ends_line self.old (whole_line self.old.plan self.old.part)))) }
     {
         match take_line(self.alloc, &mut self.draft, self.part.as_slice()) {
             Ok(ended) => {
@@ -85,7 +85,7 @@ impl PlanReader {
         requires open { self.old.ended ≡ false }
         ensures ok { OnOk result (self.new ≡ octet self.old b) }
         ensures sound { OnOk result (self.new.fault ≡ None) }
-        ensures err { IfErr result (λ e. (self.new.fault ≡ Some e) × ((e.kind ≡ PlanKind.OutOfMemory) ⊎ (self.new ≡ octet self.old b))) }
+        ensures err { IfErr result (λ e. (self.new.fault ≡ Some e) × ((self.new ≡ stops self.old PlanKind.OutOfMemory) ⊎ (self.new ≡ octet self.old b))) }
     {
         if b == b'\n' {
             return self.end_line();
@@ -159,7 +159,7 @@ impl PlanReader {
         ensures ok { OnOk result (self.new ≡ after self.old piece.now) }
         ensures taken { IfOk result (λ n. n ≡ taken self.old piece.now) }
         ensures sound { OnOk result (self.new.fault ≡ None) }
-        ensures err { IfErr result (λ e. (self.new.fault ≡ Some e) × ((e.kind ≡ PlanKind.OutOfMemory) ⊎ (self.new ≡ after self.old piece.now))) }
+        ensures err { IfErr result (λ e. (self.new.fault ≡ Some e) × (RunsOut self.old piece.now self.new ⊎ (self.new ≡ after self.old piece.now))) }
     {
         let mut count = 0;
         let mut rest = piece;
@@ -185,7 +185,7 @@ impl PlanReader {
         ensures ok { OnOk result (self.new ≡ after self.old piece.now) }
         ensures taken { IfOk result (λ n. n ≡ taken self.old piece.now) }
         ensures sound { OnOk result (self.new.fault ≡ None) }
-        ensures err { IfErr result (λ e. (self.new.fault ≡ Some e) × ((e.kind ≡ PlanKind.OutOfMemory) ⊎ (self.new ≡ after self.old piece.now))) }
+        ensures err { IfErr result (λ e. (self.new.fault ≡ Some e) × (RunsOut self.old piece.now self.new ⊎ (self.new ≡ after self.old piece.now))) }
         ensures latched { IfSome self.old.fault (λ e. (result ≡ Err e) × (self.new ≡ self.old)) }
     {
         match self.fault() {
