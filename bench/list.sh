@@ -39,5 +39,5 @@ least() {
 for count in 1000 10000; do
     cat_time=$(least "$folder/$count" cat)
     list_time=$(least "$folder/$count" "$program" list)
-    echo "$count datagrams: $((count * 1000000 / list_time)) datagrams/s, $((list_time / cat_time)) times cat"
+    echo "$count datagrams: $((count * 1000000 / list_time)) datagrams/s, $(awk "BEGIN { printf \"%.1f\", $list_time / $cat_time }") times cat"
 done

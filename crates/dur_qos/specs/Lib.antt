@@ -1,3 +1,9 @@
 pub mod Words
 pub mod Digits
 pub mod Lines
+pub mod Plan
+pub mod Index
+pub mod Reading
+pub mod Text
+pub mod Served
+pub mod Good

@@ -6,14 +6,14 @@ use Rattle.std.specs.declared.result.Result.{Result}
 use Rattle.dur_base.specs.Names.{is_name}
 use Rattle.dur_qos.specs.Digits.{number_of, hex_of}
 use Rattle.dur_qos.specs.Words.{words, word, good, last, Reads, ◌>>=◌}
-use Rattle.dur_qos.specs.declared.kinds.PlanKind.{PlanKind}
-use Rattle.dur_qos.specs.declared.kinds.PlanKind.TheVariants.{Word, Number}
+use Rattle.dur_qos.specs.declared.fault.PlanKind.{PlanKind}
+use Rattle.dur_qos.specs.declared.fault.PlanKind.TheVariants.{Word, Number}
 use Rattle.dur_base.specs.declared.kinds.Durability.{Durability}
 use Rattle.dur_base.specs.declared.kinds.Durability.TheVariants.{Volatile, TransientLocal, Transient, Persistent}
 use Rattle.dur_base.specs.declared.kinds.Shape.{Shape}
 use Rattle.dur_base.specs.declared.kinds.Shape.TheVariants as shape
-use Rattle.dur_qos.specs.declared.kinds.Line.{Line}
-use Rattle.dur_qos.specs.declared.kinds.Line.TheVariants as line
+use Rattle.dur_qos.specs.declared.line.Line.{Line}
+use Rattle.dur_qos.specs.declared.line.Line.TheVariants as line
 
 -- `transient` or `persistent`
 abbrev pub topic_kind_of : List ℕ → Option Durability

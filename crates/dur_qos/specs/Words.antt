@@ -3,8 +3,8 @@ use Rattle.std.specs.Prelude.{◌≡◌, ℕ, ◌==◌, List, [], ◌∷◌, Som
 use Rattle.std.specs.List.{slice_split}
 use Rattle.std.specs.declared.option.Option.{Option}
 use Rattle.std.specs.declared.result.Result.{Result}
-use Rattle.dur_qos.specs.declared.kinds.PlanKind.{PlanKind}
-use Rattle.dur_qos.specs.declared.kinds.PlanKind.TheVariants.{Word}
+use Rattle.dur_qos.specs.declared.fault.PlanKind.{PlanKind}
+use Rattle.dur_qos.specs.declared.fault.PlanKind.TheVariants.{Word}
 
 -- the words of a line are parted by one space
 abbrev pub words : List ℕ → List (List ℕ)

@@ -5,7 +5,7 @@ ghost use Rattle.std.specs.List.{list_all};
 ghost use Rattle.dur_qos.specs.Digits.{is_digit, is_number, value_after, number_of, is_hex, hex_of};
 
 /// The greatest number of a plan.
-const GREATEST: u32 = 2_147_483_647;
+const GREATEST: u32 = 2147483647;
 
 fn is_a_digit(b: u8) -> bool
     ensures { result ≡ is_digit b }
@@ -28,7 +28,7 @@ fn is_a_number(word: &[u8]) -> bool
     word[0] != b'0' || word.len() == 1
 }
 
-/// The value of digits, where it is not too great.
+// The value of digits, where it is not too great.
 fn value_of(word: &[u8]) -> Option<u32>
     ensures some { IfSome result (λ n. n ≡ value_after 0 word.now) }
     ensures small { IfSome result (λ n. n ≤ 2147483647) }
@@ -46,7 +46,7 @@ fn value_of(word: &[u8]) -> Option<u32>
     Some(value as u32)
 }
 
-/// The number, from 0 to 2147483647 and without a leading zero, that a word is.
+/// The number that a word is: decimal, with no leading zero, at most 2,147,483,647.
 #[tactic(auto, unfolding(crate::specs::Digits::number_of))]
 pub fn number(word: &[u8]) -> Option<u32>
     ensures { result ≡ number_of word.now }
@@ -72,7 +72,7 @@ fn all_hex(word: &[u8]) -> bool
     word.iter().all(|b| is_hex_octet(*b))
 }
 
-/// The N octets that a word of 2 N lower-case hex digits spells.
+/// The octets that a word of hex digits in lower case spells.
 #[tactic(auto, unfolding(crate::specs::Digits::hex_of))]
 pub fn octets<const N: usize>(word: &[u8]) -> Option<[u8; N]>
     ensures { result ≡ hex_of N word.now }

@@ -1,191 +1,36 @@
-//! What a line of a plan says, word by word.
+//! What a line says.
 
 ghost use Rattle.std.specs.Prelude.{◌≡◌};
-ghost use Rattle.dur_qos.specs.Words.{Gives, last};
-ghost use Rattle.dur_qos.specs.Lines.{topic_kind_of, reader_kind_of, shape_of, positive, history_of, limit_of, name_of, name_at, topic_kind_at, reader_kind_at, shape_at, history_at, limit_at, delay_at, prefix_at, guid_at, prefix_line, topic_line, writer_line, reader_line, line_by, line_at};
+ghost use Rattle.dur_qos.specs.Words.{last};
+ghost use Rattle.dur_qos.specs.Lines.{prefix_line, topic_line, writer_line, reader_line, line_by, line_at};
 
-use crate::digits::{number, octets};
+use crate::fields::{
+    take_delay, take_guid, take_history, take_limit, take_name, take_prefix, take_reader_kind,
+    take_shape, take_topic_kind,
+};
 use crate::word::Words;
-use crate::{Line, PlanKind, Topic};
-use dur_base::{Durability, Guid, Name, Shape, is_a_name};
+use crate::{PlanKind, Topic};
+use dur_base::{Durability, Guid, Name};
 
-fn topic_kind(word: &[u8]) -> Option<Durability>
-    ensures { result ≡ topic_kind_of word.now }
-{
-    if word == b"transient".as_slice() {
-        Some(Durability::Transient)
-    } else if word == b"persistent".as_slice() {
-        Some(Durability::Persistent)
-    } else {
-        None
-    }
+/// What a line says, whatever the lines before it said.
+#[derive(Drop)]
+pub enum Line {
+    Prefix([u8; 8]),
+    Topic(Topic),
+    Writer {
+        guid: Guid,
+        topic: Name,
+        lease: Option<u32>,
+    },
+    Reader {
+        guid: Guid,
+        topic: Name,
+        kind: Durability,
+    },
+    End,
 }
 
-fn reader_kind(word: &[u8]) -> Option<Durability>
-    ensures { result ≡ reader_kind_of word.now }
-{
-    if word == b"volatile".as_slice() {
-        Some(Durability::Volatile)
-    } else if word == b"transient_local".as_slice() {
-        Some(Durability::TransientLocal)
-    } else {
-        topic_kind(word)
-    }
-}
-
-fn shape(word: &[u8]) -> Option<Shape>
-    ensures { result ≡ shape_of word.now }
-{
-    if word == b"none".as_slice() {
-        Some(Shape::None)
-    } else if word == b"hash".as_slice() {
-        Some(Shape::Hash)
-    } else if word == b"u32".as_slice() {
-        Some(Shape::U32)
-    } else if word == b"text".as_slice() {
-        Some(Shape::Text)
-    } else {
-        None
-    }
-}
-
-fn from_one(value: Option<u32>) -> Option<Option<u32>>
-    ensures { result ≡ positive value }
-{
-    match value {
-        None => None,
-        Some(value) => { if value > 0 { Some(Some(value)) } else { None } }
-    }
-}
-
-fn history(word: &[u8]) -> Option<Option<u32>>
-    ensures { result ≡ history_of word.now }
-{
-    if word == b"all".as_slice() {
-        Some(None)
-    } else {
-        from_one(number(word))
-    }
-}
-
-fn limit(word: &[u8]) -> Option<Option<u32>>
-    ensures { result ≡ limit_of word.now }
-{
-    if word == b"-".as_slice() {
-        Some(None)
-    } else {
-        from_one(number(word))
-    }
-}
-
-fn name(word: &[u8]) -> Option<Name>
-    ensures { result ≡ name_of word.now }
-{
-    if is_a_name(word) {
-        Some(Name::of(word))
-    } else {
-        None
-    }
-}
-
-#[tactic(auto, unfolding(crate::specs::Lines::name_at))]
-fn take_name<'a>(words: Words<'a>) -> Result<(Name, Words<'a>), PlanKind>
-    ensures { Gives (λ x. (x.0, x.1)) result (name_at words.entry) }
-{
-    let (word, rest) = words.next()?;
-    match name(word) {
-        Some(name) => Ok((name, rest)),
-        None => Err(PlanKind::Word),
-    }
-}
-
-#[tactic(auto, unfolding(crate::specs::Lines::topic_kind_at))]
-fn take_topic_kind<'a>(words: Words<'a>) -> Result<(Durability, Words<'a>), PlanKind>
-    ensures { Gives (λ x. (x.0, x.1)) result (topic_kind_at words.entry) }
-{
-    let (word, rest) = words.next()?;
-    match topic_kind(word) {
-        Some(kind) => Ok((kind, rest)),
-        None => Err(PlanKind::Word),
-    }
-}
-
-#[tactic(auto, unfolding(crate::specs::Lines::limit_at))]
-fn take_limit<'a>(words: Words<'a>) -> Result<(Option<u32>, Words<'a>), PlanKind>
-    ensures { Gives (λ x. (x.0, x.1)) result (limit_at words.entry) }
-{
-    let (word, rest) = words.next()?;
-    match limit(word) {
-        Some(limit) => Ok((limit, rest)),
-        None => Err(PlanKind::Number),
-    }
-}
-
-#[tactic(auto, unfolding(crate::specs::Lines::reader_kind_at))]
-fn take_reader_kind<'a>(words: Words<'a>) -> Result<(Durability, Words<'a>), PlanKind>
-    ensures { Gives (λ x. (x.0, x.1)) result (reader_kind_at words.entry) }
-{
-    let (word, rest) = words.next()?;
-    match reader_kind(word) {
-        Some(kind) => Ok((kind, rest)),
-        None => Err(PlanKind::Word),
-    }
-}
-
-#[tactic(auto, unfolding(crate::specs::Lines::shape_at))]
-fn take_shape<'a>(words: Words<'a>) -> Result<(Shape, Words<'a>), PlanKind>
-    ensures { Gives (λ x. (x.0, x.1)) result (shape_at words.entry) }
-{
-    let (word, rest) = words.next()?;
-    match shape(word) {
-        Some(shape) => Ok((shape, rest)),
-        None => Err(PlanKind::Word),
-    }
-}
-
-#[tactic(auto, unfolding(crate::specs::Lines::history_at))]
-fn take_history<'a>(words: Words<'a>) -> Result<(Option<u32>, Words<'a>), PlanKind>
-    ensures { Gives (λ x. (x.0, x.1)) result (history_at words.entry) }
-{
-    let (word, rest) = words.next()?;
-    match history(word) {
-        Some(depth) => Ok((depth, rest)),
-        None => Err(PlanKind::Number),
-    }
-}
-
-#[tactic(auto, unfolding(crate::specs::Lines::delay_at))]
-fn take_delay<'a>(words: Words<'a>) -> Result<(u32, Words<'a>), PlanKind>
-    ensures { Gives (λ x. (x.0, x.1)) result (delay_at words.entry) }
-{
-    let (word, rest) = words.next()?;
-    match number(word) {
-        Some(delay) => Ok((delay, rest)),
-        None => Err(PlanKind::Number),
-    }
-}
-
-#[tactic(auto, unfolding(crate::specs::Lines::prefix_at))]
-fn take_prefix<'a>(words: Words<'a>) -> Result<([u8; 8], Words<'a>), PlanKind>
-    ensures { Gives (λ x. (x.0, x.1)) result (prefix_at words.entry) }
-{
-    let (word, rest) = words.next()?;
-    match octets(word) {
-        Some(octets) => Ok((octets, rest)),
-        None => Err(PlanKind::Word),
-    }
-}
-
-#[tactic(auto, unfolding(crate::specs::Lines::guid_at))]
-fn take_guid<'a>(words: Words<'a>) -> Result<(Guid, Words<'a>), PlanKind>
-    ensures { Gives (λ x. (x.0, x.1)) result (guid_at words.entry) }
-{
-    let (word, rest) = words.next()?;
-    match octets(word) {
-        Some(octets) => Ok((Guid(octets), rest)),
-        None => Err(PlanKind::Word),
-    }
-}
+// ---- the kinds of lines, after their first word
 
 #[tactic(auto, unfolding(crate::specs::Lines::writer_line))]
 fn writer<'a>(words: Words<'a>) -> Result<Line, PlanKind>
@@ -281,8 +126,7 @@ fn by_first<'a>(first: &[u8], words: Words<'a>) -> Result<Line, PlanKind>
     }
 }
 
-/// What a line says, without its line feed, or the fault of its first bad word: `Number` where a
-/// number, depth, limit, lease or delay is to stand, and else `Word`.
+/// What a line says, or the fault of its first bad word.
 #[tactic(auto, unfolding(crate::specs::Lines::line_at))]
 pub fn line_of(text: &[u8]) -> Result<Line, PlanKind>
     ensures { result ≡ line_at text.now }

@@ -1,4 +1,4 @@
-//! The words of a line, taken from its front.
+//! The words of a line, which one space parts.
 
 ghost use Rattle.std.specs.Prelude.{◌≡◌, ◌==◌, ◌<◌, length, position, IfSome};
 ghost use Rattle.dur_qos.specs.Words.{words, word, Gives};
@@ -29,14 +29,14 @@ fn space_of(line: &[u8]) -> Option<usize>
 }
 
 impl<'a> Words<'a> {
-    /// The words of a line, which are parted by one space.
+    /// The words of a line.
     pub fn of(line: &'a [u8]) -> Words<'a>
         ensures { result ≡ words line.now }
     {
         Words { rest: Some(line) }
     }
 
-    /// The next word, and those after it. It is `Word` where no word is left.
+    /// The next word, and those after it.
     pub fn next(self) -> Result<(&'a [u8], Words<'a>), PlanKind>
         ensures { Gives (λ x. (x.0.now, x.1)) result (word self.entry) }
     {

@@ -9,10 +9,10 @@ use Rattle.dur_base.specs.declared.kinds.Durability.{Durability}
 use Rattle.dur_base.specs.declared.kinds.Durability.TheVariants.{Transient}
 use Rattle.dur_base.specs.declared.kinds.Shape.{Shape}
 use Rattle.dur_base.specs.declared.kinds.Shape.TheVariants.{Hash}
-use Rattle.dur_qos.specs.declared.kinds.PlanKind.{PlanKind}
-use Rattle.dur_qos.specs.declared.kinds.Topic.{Topic}
-use Rattle.dur_qos.specs.declared.kinds.Line.{Line}
-use Rattle.dur_qos.specs.declared.kinds.Line.TheVariants as line
+use Rattle.dur_qos.specs.declared.fault.PlanKind.{PlanKind}
+use Rattle.dur_qos.specs.declared.plan.Topic.{Topic}
+use Rattle.dur_qos.specs.declared.line.Line.{Line}
+use Rattle.dur_qos.specs.declared.line.Line.TheVariants as line
 use Rattle.dur_qos.specs.Lines.{line_at}
 use Rattle.durability.specs.declared.plan.Plan.{Plan}
 
