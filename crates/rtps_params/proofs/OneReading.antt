@@ -1,5 +1,5 @@
 -- Any octets are read in one way.
-use Rattle.std.proofs.Common.{◌≡◌, ◌⊎◌, ℕ, zero, suc, ◌+◌, ◌<◌, Bool, List, [], length, inl, inr, refl, arith}
+use Rattle.std.proofs.Common.{◌⊎◌, ℕ, zero, suc, ◌+◌, ◌<◌, Bool, List, [], length, inl, inr, refl, arith}
 use Rattle.dur_base.proofs.OctetLists.{IsBytes}
 use Rattle.rtps_params.specs.declared.inline.Inline.{Inline}
 use Rattle.rtps_params.specs.Lists.{texts}

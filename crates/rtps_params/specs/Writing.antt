@@ -1,5 +1,5 @@
 -- The one text that is written of what is told.
-use Rattle.std.specs.Prelude.{◌≡◌, ℕ, ◌*◌, ◌-◌, ◌<◌, ◌≤◌, ◌^◌, Bool, List, [], ◌∷◌, ◌++◌, length, Option, Some, None, IfSome, ◌==◌, if◌then◌else◌}
+use Rattle.std.specs.Prelude.{◌≡◌, ℕ, ◌≤◌, Bool, List, [], ◌∷◌, ◌++◌, length, Option, Some, None, IfSome, ◌==◌, if◌then◌else◌}
 use Rattle.std.specs.Int.{w16}
 use Rattle.dur_base.specs.declared.sample.SetMark.{SetMark}
 use Rattle.dur_base.specs.declared.sample.SetMark.TheVariants.{NoSet, End, Of}

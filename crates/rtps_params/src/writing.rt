@@ -129,11 +129,11 @@ fn put_set(text: &mut ArrayVec<u8, 96>, set: SetMark, little: bool)
     put_parameter(text, COHERENT_SET, &value, little);
 }
 
-/// The text of what is told, at most 92 octets: what `write_list` writes.
+/// The text of what is told, at most 88 octets: what `write_list` writes.
 #[tactic(auto, unfolding(crate::specs::Writing::list_text))]
 pub fn list_octets(inline: &Inline, little: bool) -> ArrayVec<u8, 96>
     ensures text { result.items ≡ list_text little inline.now }
-    ensures len { length result.items ≤ 92 }
+    ensures len { length result.items ≤ 88 }
     // What the types of the fields know.
     ensures key { IsWholeKey inline.now.hash }
     ensures whole { IsWholeOriginal inline.now.original }
