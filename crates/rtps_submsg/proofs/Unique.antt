@@ -10,9 +10,11 @@ use Rattle.rtps_submsg.specs.declared.sub.Sub.{Sub}
 use Rattle.rtps_submsg.specs.declared.sub.SubFault.{SubFault}
 use Rattle.rtps_submsg.specs.declared.sub.SubKind.{SubKind}
 use Rattle.rtps_submsg.specs.declared.sub.SubKind.TheVariants.{List as InList}
-use Rattle.rtps_submsg.specs.FieldSteps.{has}
-use Rattle.rtps_submsg.specs.Data.{Head, head_at, form_of, payload_of, InlineSpells, InlineBreaks, DataSpells, DataBreaks}
-use Rattle.rtps_submsg.specs.Subs.{Framed, framed_at, plain_at, SpellsBy, BreaksBy, SubSpells, SubBreaks, SameData, SameSub}
+use Rattle.rtps_submsg.specs.Grammar.{Row, Spells, Breaks}
+use Rattle.rtps_submsg.specs.Rows.{has, row_of}
+use Rattle.rtps_submsg.specs.Data.{Head, head_row, form_of, payload_of, InlineSpells, InlineBreaks, DataSpells, DataBreaks}
+use Rattle.rtps_submsg.proofs.Runs.{run, spells_run, breaks_run}
+use Rattle.rtps_submsg.specs.Subs.{Framed, framed_at, SpellsBy, BreaksBy, SubSpells, SubBreaks, SameData, SameSub}
 
 -- ---- a result is one thing
 
@@ -24,6 +26,17 @@ err_once r x y e f = cc
 
 not_both : {A E : Type 0} (r : Result A E) (x : A) (y : E) → r ≡ Ok x → r ≡ Err y → ⊥
 not_both r x y e f = cc
+
+-- ---- a row of fields
+
+row_once : {V : Type 0} (row : Row V) (body : List ℕ) (v w : V) → Spells row body v → Spells row body w → v ≡ w
+row_once row body v w x y = ok_once (run row body) v w (spells_run row body v x) (spells_run row body w y)
+
+row_never : {V : Type 0} (row : Row V) (body : List ℕ) (v : V) (e : Broken) → Spells row body v → Breaks row body e → ⊥
+row_never row body v e x y = not_both (run row body) v e (spells_run row body v x) (breaks_run row body e y)
+
+row_breaks : {V : Type 0} (row : Row V) (body : List ℕ) (d e : Broken) → Breaks row body d → Breaks row body e → d ≡ e
+row_breaks row body d e x y = err_once (run row body) d e (breaks_run row body d x) (breaks_run row body e y)
 
 -- ---- the inline QoS
 
@@ -50,7 +63,7 @@ head_of d behind = record { reader = d.reader; writer = d.writer; number = d.num
 
 data_once : (little : Bool) (flags : ℕ) (body : List ℕ) (d e : DataSub) → DataSpells little flags body d → DataSpells little flags body e → SameData d e
 data_once little flags body d e x y =
-    let h : head_of d x.behind ≡ head_of e y.behind = ok_once (head_at little body) (head_of d x.behind) (head_of e y.behind) x.head y.head in
+    let h : head_of d x.behind ≡ head_of e y.behind = row_once (head_row little body) body (head_of d x.behind) (head_of e y.behind) x.head y.head in
     let b : x.behind ≡ y.behind = ap (λ (k : Head). k.behind) h in
     let i : (d.inline ≡ e.inline) × (x.rest ≡ y.rest) = inline_once (has flags 0x02) little y.behind d.inline e.inline x.rest y.rest (subst (λ (t : List ℕ). InlineSpells (has flags 0x02) little t d.inline x.rest) b x.inline) y.inline in
     record {
@@ -63,32 +76,32 @@ data_once little flags body d e x y =
     }
 
 data_never : (little : Bool) (flags : ℕ) (body : List ℕ) (d : DataSub) (e : Broken) → DataSpells little flags body d → DataBreaks little flags body e → ⊥
-data_never little flags body d e x (inl y) = not_both (head_at little body) (head_of d x.behind) e x.head y
+data_never little flags body d e x (inl y) = row_never (head_row little body) body (head_of d x.behind) e x.head y
 data_never little flags body d e x (inr y) =
-    let h : head_of d x.behind ≡ y.head = ok_once (head_at little body) (head_of d x.behind) y.head x.head y.read in
+    let h : head_of d x.behind ≡ y.head = row_once (head_row little body) body (head_of d x.behind) y.head x.head y.spelt in
     inline_never (has flags 0x02) little y.head.behind d.inline x.rest e (subst (λ (t : List ℕ). InlineSpells (has flags 0x02) little t d.inline x.rest) (ap (λ (k : Head). k.behind) h) x.inline) y.breaks
 
 data_breaks : (little : Bool) (flags : ℕ) (body : List ℕ) (d e : Broken) → DataBreaks little flags body d → DataBreaks little flags body e → d ≡ e
-data_breaks little flags body d e (inl x) (inl y) = err_once (head_at little body) d e x y
-data_breaks little flags body d e (inl x) (inr y) = absurd (not_both (head_at little body) y.head d y.read x)
-data_breaks little flags body d e (inr x) (inl y) = absurd (not_both (head_at little body) x.head e x.read y)
+data_breaks little flags body d e (inl x) (inl y) = row_breaks (head_row little body) body d e x y
+data_breaks little flags body d e (inl x) (inr y) = absurd (row_never (head_row little body) body y.head d y.spelt x)
+data_breaks little flags body d e (inr x) (inl y) = absurd (row_never (head_row little body) body x.head e x.spelt y)
 data_breaks little flags body d e (inr x) (inr y) =
-    let h : x.head ≡ y.head = ok_once (head_at little body) x.head y.head x.read y.read in
+    let h : x.head ≡ y.head = row_once (head_row little body) body x.head y.head x.spelt y.spelt in
     inline_breaks (has flags 0x02) little y.head.behind d e (subst (λ (t : List ℕ). InlineBreaks (has flags 0x02) little t d) (ap (λ (k : Head). k.behind) h) x.breaks) y.breaks
 
 -- ---- bodies
 
 body_once : (is_data : Bool) (f : Framed) (s t : Sub) → SpellsBy is_data f s → SpellsBy is_data f t → SameSub s t
 body_once true f s t x y = inr (record { one = x.0; other = y.0; one_is = x.2; other_is = y.2; same = data_once (has f.flags 0x01) f.flags f.body x.0 y.0 x.1 y.1 })
-body_once false f s t x y = inl (ok_once (plain_at (has f.flags 0x01) f.flags f.id f.body) s t x y)
+body_once false f s t x y = inl (row_once (row_of (has f.flags 0x01) f.flags f.id) f.body s t x y)
 
 body_never : (is_data : Bool) (f : Framed) (s : Sub) (e : Broken) → SpellsBy is_data f s → BreaksBy is_data f e → ⊥
 body_never true f s e x y = data_never (has f.flags 0x01) f.flags f.body x.0 e x.1 y
-body_never false f s e x y = not_both (plain_at (has f.flags 0x01) f.flags f.id f.body) s e x y
+body_never false f s e x y = row_never (row_of (has f.flags 0x01) f.flags f.id) f.body s e x y
 
 body_breaks : (is_data : Bool) (f : Framed) (d e : Broken) → BreaksBy is_data f d → BreaksBy is_data f e → d ≡ e
 body_breaks true f d e x y = data_breaks (has f.flags 0x01) f.flags f.body d e x y
-body_breaks false f d e x y = err_once (plain_at (has f.flags 0x01) f.flags f.id f.body) d e x y
+body_breaks false f d e x y = row_breaks (row_of (has f.flags 0x01) f.flags f.id) f.body d e x y
 
 -- ---- submessages
 

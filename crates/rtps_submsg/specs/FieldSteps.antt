@@ -24,10 +24,6 @@ Gives (Err e) read = read ≡ Err e
 abbrev pub breaks : {A : Type 0} → List ℕ → SubKind → Result A Broken
 breaks rest kind = Err (record { left = length rest; kind = kind })
 
--- a flag is set
-abbrev pub has : ℕ → ℕ → Bool
-has flags flag = if bit_and flags flag == 0 then false else true
-
 -- a field of that many octets, and what follows it
 unfoldable pub field_at : ℕ → List ℕ → Result (List ℕ × List ℕ) Broken
 field_at width rest = if nat_lt (length rest) width then breaks rest Cut else Ok (take width rest, drop width rest)

@@ -1,8 +1,11 @@
-pub mod FieldSteps
+pub mod Grammar
 pub mod Sets
-pub mod SetSteps
-pub mod RowSteps
+pub mod Rows
 pub mod Data
 pub mod Subs
 pub mod Writing
 pub mod First
+pub mod FieldSteps
+pub mod SetSteps
+pub mod RowSteps
+pub mod DataSteps

@@ -1,11 +1,11 @@
--- The table of submessages: the fields of each body, in order. Octets after the last field are
--- not looked at.
-use Rattle.std.specs.Prelude.{ℕ, ◌+◌, ◌*◌, ◌^◌, Bool, true, false, List, Some, None, Result, Ok, nat_lt, nat_le, ◌||◌, if◌then◌else◌}
+-- The steps that the readers of the bodies take. They are proved to find what the grammar says.
+use Rattle.std.specs.Prelude.{ℕ, ◌+◌, ◌*◌, ◌^◌, Bool, true, false, List, Some, None, Result, Ok, nat_lt, nat_le, ◌&&◌, ◌==◌, if◌then◌else◌}
 use Rattle.rtps_submsg.specs.declared.field.Broken.{Broken}
 use Rattle.rtps_submsg.specs.declared.sub.Sub.{Sub}
-use Rattle.rtps_submsg.specs.declared.sub.Sub.TheVariants.{InfoTs, InfoDst, InfoSrc, Heartbeat, AckNack, Gap}
+use Rattle.rtps_submsg.specs.declared.sub.Sub.TheVariants.{Pad, Other, InfoTs, InfoDst, InfoSrc, Heartbeat, AckNack, Gap}
 use Rattle.rtps_submsg.specs.declared.sub.SubKind.TheVariants.{BadRange}
-use Rattle.rtps_submsg.specs.FieldSteps.{◌>>=◌, breaks, has, field_at, u32_at, sequence_at, number_at}
+use Rattle.rtps_submsg.specs.FieldSteps.{◌>>=◌, breaks, field_at, u32_at, sequence_at, number_at}
+use Rattle.rtps_submsg.specs.Rows.{has}
 use Rattle.rtps_submsg.specs.SetSteps.{set_at}
 
 -- 06 ACKNACK: readerId 4, writerId 4, set, count 4; flag F 02
@@ -21,7 +21,7 @@ acknack_at little flags body = do
 unfoldable pub last_at : Bool → ℕ → List ℕ → Result (ℕ × List ℕ) Broken
 last_at little first rest = do
   last ← sequence_at little rest
-  if nat_le (2 ^ 63) last.0 || nat_lt (last.0 + 1) first then breaks rest BadRange else Ok last
+  if nat_lt last.0 (2 ^ 63) && nat_le first (last.0 + 1) then Ok last else breaks rest BadRange
 
 -- 07 HEARTBEAT: readerId 4, writerId 4, firstSN 8, lastSN 8, count 4; flags F 02, L 04
 unfoldable pub heartbeat_at : Bool → ℕ → List ℕ → Result Sub Broken
@@ -62,3 +62,15 @@ unfoldable pub info_dst_at : List ℕ → Result Sub Broken
 info_dst_at body = do
   prefix ← field_at 12 body
   Ok (InfoDst prefix.0)
+
+-- every id but DATA's
+unfoldable pub plain_at : Bool → ℕ → ℕ → List ℕ → Result Sub Broken
+plain_at little flags id body =
+    if id == 0x01 then Ok Pad
+    else if id == 0x06 then acknack_at little flags body
+    else if id == 0x07 then heartbeat_at little flags body
+    else if id == 0x08 then gap_at little body
+    else if id == 0x09 then info_ts_at little flags body
+    else if id == 0x0c then info_src_at body
+    else if id == 0x0e then info_dst_at body
+    else Ok (Other id)

@@ -6,12 +6,12 @@ use Rattle.rtps_submsg.specs.declared.field.Broken.{Broken}
 use Rattle.rtps_submsg.specs.declared.reading.Frame.{Frame}
 use Rattle.rtps_submsg.specs.declared.sub.DataSub.{DataSub}
 use Rattle.rtps_submsg.specs.declared.sub.Sub.{Sub}
-use Rattle.rtps_submsg.specs.declared.sub.Sub.TheVariants.{Pad, Data, Other}
+use Rattle.rtps_submsg.specs.declared.sub.Sub.TheVariants.{Data}
 use Rattle.rtps_submsg.specs.declared.sub.SubFault.{SubFault}
 use Rattle.rtps_submsg.specs.declared.sub.SubKind.{SubKind}
 use Rattle.rtps_submsg.specs.declared.sub.SubKind.TheVariants.{Cut, BothDataAndKey}
-use Rattle.rtps_submsg.specs.FieldSteps.{has}
-use Rattle.rtps_submsg.specs.RowSteps.{acknack_at, heartbeat_at, gap_at, info_ts_at, info_src_at, info_dst_at}
+use Rattle.rtps_submsg.specs.Grammar.{Spells, Breaks}
+use Rattle.rtps_submsg.specs.Rows.{has, row_of}
 use Rattle.rtps_submsg.specs.Data.{DataSpells, DataBreaks}
 
 -- a header and a body
@@ -44,26 +44,14 @@ framed_at bytes =
     if nat_lt (length bytes) 4 then fault 0 Cut
     else framed (slice_index bytes 0) (slice_index bytes 1) (number (has (slice_index bytes 1) 0x01) w16 (take 2 (drop 2 bytes))) (drop 4 bytes)
 
--- every id but DATA's
-unfoldable pub plain_at : Bool → ℕ → ℕ → List ℕ → Result Sub Broken
-plain_at little flags id body =
-    if id == 0x01 then Ok Pad
-    else if id == 0x06 then acknack_at little flags body
-    else if id == 0x07 then heartbeat_at little flags body
-    else if id == 0x08 then gap_at little body
-    else if id == 0x09 then info_ts_at little flags body
-    else if id == 0x0c then info_src_at body
-    else if id == 0x0e then info_dst_at body
-    else Ok (Other id)
-
 -- the body spells the submessage, for DATA and for the others
 abbrev pub SpellsBy : Bool → Framed → Sub → Type 0
 SpellsBy true f s = (d : DataSub) × DataSpells (has f.flags 0x01) f.flags f.body d × (s ≡ Data d)
-SpellsBy false f s = plain_at (has f.flags 0x01) f.flags f.id f.body ≡ Ok s
+SpellsBy false f s = Spells (row_of (has f.flags 0x01) f.flags f.id) f.body s
 
 abbrev pub BreaksBy : Bool → Framed → Broken → Type 0
 BreaksBy true f e = DataBreaks (has f.flags 0x01) f.flags f.body e
-BreaksBy false f e = plain_at (has f.flags 0x01) f.flags f.id f.body ≡ Err e
+BreaksBy false f e = Breaks (row_of (has f.flags 0x01) f.flags f.id) f.body e
 
 abbrev pub BodySpells : Framed → Sub → Type 0
 BodySpells f s = SpellsBy (f.id == 0x15) f s

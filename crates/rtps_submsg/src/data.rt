@@ -1,8 +1,10 @@
 //! DATA: its head, its inline QoS and its payload (DDSI-RTPS 9.4.5.3).
 
 ghost use Rattle.std.specs.Prelude.{◌≡◌, ◌≤◌, length, IfOk, IfErr, Result, Ok, Err};
-ghost use Rattle.rtps_submsg.specs.FieldSteps.{Reads, has};
-ghost use Rattle.rtps_submsg.specs.Data.{GivesHead, offset_at, head_at, InlineSpells, InlineBreaks, form_of, payload_of, DataSpells, DataBreaks};
+ghost use Rattle.rtps_submsg.specs.FieldSteps.{Reads};
+ghost use Rattle.rtps_submsg.specs.Rows.{has};
+ghost use Rattle.rtps_submsg.specs.DataSteps.{GivesHead, offset_at, head_at};
+ghost use Rattle.rtps_submsg.specs.Data.{InlineSpells, InlineBreaks, form_of, payload_of, DataSpells, DataBreaks};
 
 use crate::field::{Body, Broken, has};
 use crate::sub::{DataSub, SubKind};
@@ -29,7 +31,7 @@ struct Head<'a> {
 }
 
 /// The fields before the inline QoS.
-#[tactic(auto, unfolding(crate::specs::Data::head_at))]
+#[tactic(auto, unfolding(crate::specs::DataSteps::head_at))]
 fn read_head<'a>(body: &'a [u8], little: bool) -> Result<Head<'a>, Broken>
     ensures gives { GivesHead result (head_at little body.now) }
     ensures behind { IfOk result (λ h. length h.behind.now ≤ length body.now) }
@@ -52,7 +54,7 @@ fn read_head<'a>(body: &'a [u8], little: bool) -> Result<Head<'a>, Broken>
 
 impl<'a> Body<'a> {
     /// An octetsToInlineQos, at least 16 and not past the body.
-    #[tactic(auto, unfolding(crate::specs::Data::offset_at))]
+    #[tactic(auto, unfolding(crate::specs::DataSteps::offset_at))]
     fn offset(&mut self, little: bool) -> Result<u16, Broken>
         ensures reads { Reads (λ x. x) result self.new.rest.now (offset_at little self.old.rest.now) }
         ensures shrinks { length self.new.rest.now ≤ length self.old.rest.now }
@@ -113,6 +115,7 @@ fn payload<'a>(form: Form, rest: &'a [u8]) -> &'a [u8]
 }
 
 /// A DATA.
+#[tactic(auto, using(crate::proofs::Found::head_spells, crate::proofs::Found::head_breaks))]
 pub fn data<'a>(body: &'a [u8], flags: u8, little: bool) -> Result<DataSub<'a>, Broken>
     ensures ok { IfOk result (λ d. DataSpells little flags body.now d) }
     ensures err { IfErr result (λ e. DataBreaks little flags body.now e) }

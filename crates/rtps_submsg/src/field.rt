@@ -2,7 +2,8 @@
 //! begins: so no place is carried along, and no sum can be too large.
 
 ghost use Rattle.std.specs.Prelude.{◌≡◌, ◌≤◌, length, IfOk, IfErr};
-ghost use Rattle.rtps_submsg.specs.FieldSteps.{Reads, has, field_at, u16_at, u32_at, sequence_at, number_at, sample_number_at};
+ghost use Rattle.rtps_submsg.specs.FieldSteps.{Reads, field_at, u16_at, u32_at, sequence_at, number_at, sample_number_at};
+ghost use Rattle.rtps_submsg.specs.Rows.{has};
 
 use crate::sub::SubKind;
 use dur_base::{EntityId, Number, Prefix, sequence_of, u16_of, u32_of};

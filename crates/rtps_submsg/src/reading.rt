@@ -1,8 +1,10 @@
 //! The submessage at the front of the rest of a message.
 
 ghost use Rattle.std.specs.Prelude.{◌≡◌, ◌≤◌, ◌+◌, ℕ, length, IfOk, IfErr, IsOkAnd, IsErrAnd};
-ghost use Rattle.rtps_submsg.specs.FieldSteps.{Gives, has};
-ghost use Rattle.rtps_submsg.specs.Subs.{GivesFrame, extent, framed_at, plain_at, BodySpells, BodyBreaks, SubSpells, SubBreaks, SameSub};
+ghost use Rattle.rtps_submsg.specs.FieldSteps.{Gives};
+ghost use Rattle.rtps_submsg.specs.Rows.{has};
+ghost use Rattle.rtps_submsg.specs.RowSteps.{plain_at};
+ghost use Rattle.rtps_submsg.specs.Subs.{GivesFrame, extent, framed_at, BodySpells, BodyBreaks, SubSpells, SubBreaks, SameSub};
 
 use crate::body::{acknack, gap, heartbeat, info_dst, info_src, info_ts};
 use crate::data::{DATA, KEY, data};
@@ -82,7 +84,7 @@ fn frame_at<'a>(bytes: &'a [u8]) -> Result<Frame<'a>, SubFault>
 }
 
 /// A body of any id but DATA's.
-#[tactic(auto, unfolding(crate::specs::Subs::plain_at))]
+#[tactic(auto, unfolding(crate::specs::RowSteps::plain_at))]
 fn plain<'a>(id: u8, flags: u8, body: &'a [u8]) -> Result<Sub<'a>, Broken>
     ensures gives { Gives result (plain_at (has flags 0x01) flags id body.now) }
     ensures left { IfErr result (λ e. e.left ≤ length body.now) }
@@ -101,6 +103,7 @@ fn plain<'a>(id: u8, flags: u8, body: &'a [u8]) -> Result<Sub<'a>, Broken>
 }
 
 /// A body of any id.
+#[tactic(auto, using(crate::proofs::Found::plain_spells, crate::proofs::Found::plain_breaks))]
 fn read_body<'a>(id: u8, flags: u8, body: &'a [u8]) -> Result<Sub<'a>, Broken>
     ensures ok { IfOk result (λ s. BodySpells (record { id = id; flags = flags; body = body.now }) s) }
     ensures err { IfErr result (λ e. BodyBreaks (record { id = id; flags = flags; body = body.now }) e) }
