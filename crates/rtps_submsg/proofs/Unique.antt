@@ -14,7 +14,10 @@ use Rattle.rtps_submsg.specs.Grammar.{Row, Spells, Breaks}
 use Rattle.rtps_submsg.specs.Rows.{has, row_of}
 use Rattle.rtps_submsg.specs.Data.{Head, head_row, form_of, payload_of, InlineSpells, InlineBreaks, DataSpells, DataBreaks}
 use Rattle.rtps_submsg.proofs.Runs.{run, spells_run, breaks_run}
-use Rattle.rtps_submsg.specs.Subs.{Framed, framed_at, SpellsBy, BreaksBy, SubSpells, SubBreaks, SameData, SameSub}
+use Rattle.rtps_submsg.specs.Headers.{Framed, Frames, HeadBreaks}
+use Rattle.rtps_submsg.specs.HeaderSteps.{framed_at}
+use Rattle.rtps_submsg.proofs.Headers.{frames_read, head_breaks_read}
+use Rattle.rtps_submsg.specs.Subs.{SpellsBy, BreaksBy, SubSpells, SubBreaks, SameData, SameSub}
 
 -- ---- a result is one thing
 
@@ -103,30 +106,30 @@ body_breaks : (is_data : Bool) (f : Framed) (d e : Broken) → BreaksBy is_data 
 body_breaks true f d e x y = data_breaks (has f.flags 0x01) f.flags f.body d e x y
 body_breaks false f d e x y = row_breaks (row_of (has f.flags 0x01) f.flags f.id) f.body d e x y
 
+abbrev fault_of : ℕ → SubKind → SubFault
+fault_of at kind = record { at = at; kind = kind }
+
 -- ---- submessages
 
 pub sub_once : (bytes : List ℕ) (s t : Sub) (n m : ℕ) → SubSpells bytes s n → SubSpells bytes t m → (n ≡ m) × SameSub s t
 sub_once bytes s t n m x y =
-    let f : x.frame ≡ y.frame = ok_once (framed_at bytes) x.frame y.frame x.framed y.framed in
+    let f : x.frame ≡ y.frame = ok_once (framed_at bytes) x.frame y.frame (frames_read bytes x.frame x.framed) (frames_read bytes y.frame y.framed) in
     (x.takes ∙ ap (λ (k : Framed). 4 + length k.body) f ∙ sym y.takes, body_once (eqb y.frame.id 0x15) y.frame s t (subst (λ (k : Framed). SpellsBy (eqb k.id 0x15) k s) f x.body) y.body)
 
 pub sub_never : (bytes : List ℕ) (s : Sub) (n at : ℕ) (kind : SubKind) → SubSpells bytes s n → SubBreaks bytes at kind → ⊥
-sub_never bytes s n at kind x (inl y) = not_both (framed_at bytes) x.frame _ x.framed y
+sub_never bytes s n at kind x (inl y) = not_both (framed_at bytes) x.frame (fault_of at kind) (frames_read bytes x.frame x.framed) (head_breaks_read bytes at kind y)
 sub_never bytes s n at kind x (inr y) =
-    let f : x.frame ≡ y.frame = ok_once (framed_at bytes) x.frame y.frame x.framed y.framed in
+    let f : x.frame ≡ y.frame = ok_once (framed_at bytes) x.frame y.frame (frames_read bytes x.frame x.framed) (frames_read bytes y.frame y.framed) in
     body_never (eqb y.frame.id 0x15) y.frame s y.broken (subst (λ (k : Framed). SpellsBy (eqb k.id 0x15) k s) f x.body) y.breaks
-
-abbrev fault_of : ℕ → SubKind → SubFault
-fault_of at kind = record { at = at; kind = kind }
 
 pub sub_breaks : (bytes : List ℕ) (at place : ℕ) (kind other : SubKind) → SubBreaks bytes at kind → SubBreaks bytes place other → (at ≡ place) × (kind ≡ other)
 sub_breaks bytes at place kind other (inl x) (inl y) =
-    let e : fault_of at kind ≡ fault_of place other = err_once (framed_at bytes) (fault_of at kind) (fault_of place other) x y in
+    let e : fault_of at kind ≡ fault_of place other = err_once (framed_at bytes) (fault_of at kind) (fault_of place other) (head_breaks_read bytes at kind x) (head_breaks_read bytes place other y) in
     (ap (λ (k : SubFault). k.at) e, ap (λ (k : SubFault). k.kind) e)
-sub_breaks bytes at place kind other (inl x) (inr y) = absurd (not_both (framed_at bytes) y.frame (fault_of at kind) y.framed x)
-sub_breaks bytes at place kind other (inr x) (inl y) = absurd (not_both (framed_at bytes) x.frame (fault_of place other) x.framed y)
+sub_breaks bytes at place kind other (inl x) (inr y) = absurd (not_both (framed_at bytes) y.frame (fault_of at kind) (frames_read bytes y.frame y.framed) (head_breaks_read bytes at kind x))
+sub_breaks bytes at place kind other (inr x) (inl y) = absurd (not_both (framed_at bytes) x.frame (fault_of place other) (frames_read bytes x.frame x.framed) (head_breaks_read bytes place other y))
 sub_breaks bytes at place kind other (inr x) (inr y) =
-    let f : x.frame ≡ y.frame = ok_once (framed_at bytes) x.frame y.frame x.framed y.framed in
+    let f : x.frame ≡ y.frame = ok_once (framed_at bytes) x.frame y.frame (frames_read bytes x.frame x.framed) (frames_read bytes y.frame y.framed) in
     let b : x.broken ≡ y.broken = body_breaks (eqb y.frame.id 0x15) y.frame x.broken y.broken (subst (λ (k : Framed). BreaksBy (eqb k.id 0x15) k x.broken) f x.breaks) y.breaks in
     (x.place ∙ ap (λ (k : Framed). 4 + (length k.body - x.broken.left)) f ∙ ap (λ (k : Broken). 4 + (length y.frame.body - k.left)) b ∙ sym y.place, x.kind_is ∙ ap (λ (k : Broken). k.kind) b ∙ sym y.kind_is)
 

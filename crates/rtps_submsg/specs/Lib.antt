@@ -2,9 +2,11 @@ pub mod Grammar
 pub mod Sets
 pub mod Rows
 pub mod Data
+pub mod Headers
 pub mod Subs
 pub mod Writing
 pub mod First
+pub mod HeaderSteps
 pub mod FieldSteps
 pub mod SetSteps
 pub mod RowSteps

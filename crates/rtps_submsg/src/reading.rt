@@ -4,7 +4,9 @@ ghost use Rattle.std.specs.Prelude.{◌≡◌, ◌≤◌, ◌+◌, ℕ, length, 
 ghost use Rattle.rtps_submsg.specs.FieldSteps.{Gives};
 ghost use Rattle.rtps_submsg.specs.Rows.{has};
 ghost use Rattle.rtps_submsg.specs.RowSteps.{plain_at};
-ghost use Rattle.rtps_submsg.specs.Subs.{GivesFrame, extent, framed_at, BodySpells, BodyBreaks, SubSpells, SubBreaks, SameSub};
+ghost use Rattle.rtps_submsg.specs.Headers.{extent, Frames, HeadBreaks};
+ghost use Rattle.rtps_submsg.specs.HeaderSteps.{GivesFrame, framed_at};
+ghost use Rattle.rtps_submsg.specs.Subs.{BodySpells, BodyBreaks, SubSpells, SubBreaks, SameSub};
 
 use crate::body::{acknack, gap, heartbeat, info_dst, info_src, info_ts};
 use crate::data::{DATA, KEY, data};
@@ -51,7 +53,7 @@ fn body_len(id: u8, len: u16, left: usize) -> usize
 }
 
 /// The header and the body.
-#[tactic(auto, unfolding(crate::specs::Subs::framed_at))]
+#[tactic(auto, unfolding(crate::specs::HeaderSteps::framed_at))]
 fn frame_at<'a>(bytes: &'a [u8]) -> Result<Frame<'a>, SubFault>
     ensures gives { GivesFrame result (framed_at bytes.now) }
     ensures within { IfOk result (λ f. 4 + length f.body.now ≤ length bytes.now) }
