@@ -1,6 +1,6 @@
 //! Writing the one text of what is told: what is present, in a fixed order.
 
-ghost use Rattle.std.specs.Prelude.{◌≡◌, ◌≤◌, ◌+◌, ◌<◌, ◌++◌, ◌↔◌, List, ℕ, length, drop, take, IsErr, IfOk, IfErr, OnErr};
+ghost use Rattle.std.specs.Prelude.{◌≡◌, ◌≤◌, ◌+◌, ◌<◌, ◌++◌, ◌↔◌, None, List, ℕ, length, drop, take, IsErr, IfOk, IfErr, OnErr};
 ghost use Rattle.std.specs.Int.{w16, w32};
 ghost use Rattle.dur_base.specs.Fields.{octets, sequence_octets};
 ghost use Rattle.rtps_params.specs.Lists.{ListSpells};
@@ -151,15 +151,16 @@ pub fn list_octets(inline: &Inline, little: bool) -> ArrayVec<u8, 96>
 
 /// Writes the text of what is told to the front of `out`, and says how many octets it takes: key hash,
 /// status, original, lifespan, set, each where it is present, and the sentinel. It is `Short`, and `out`
-/// unchanged, exactly where the text is longer than `out`. Under the condition that what is told can be
-/// written, reading the text gives it back, whatever follows (DDSI-RTPS 9.4.2.11, 9.6.4).
+/// unchanged, exactly where the text is longer than `out`. Condition: nothing strange is told. Where what is
+/// told lies in the ranges of a list, reading the text gives it back, whatever follows (DDSI-RTPS 9.4.2.11,
+/// 9.6.4).
 pub fn write_list(inline: &Inline, little: bool, out: &mut [u8]) -> Result<usize, Short>
-    requires { IsWritable inline.now }
+    requires { inline.now.strange ≡ None }
     ensures ok { IfOk result (λ n. n ≡ length (list_text little inline.now)) }
     ensures text { IfOk result (λ n. out.new ≡ list_text little inline.now ++ drop n out.old) }
     ensures short { IsErr result ↔ (length out.old < length (list_text little inline.now)) }
     ensures unchanged { OnErr result (out.new ≡ out.old) }
-    ensures back { IfOk result (λ n. (rest : List ℕ) → ListSpells (take n out.new ++ rest) little inline.now n) }
+    ensures back { IsWritable inline.now → IfOk result (λ n. (rest : List ℕ) → ListSpells (take n out.new ++ rest) little inline.now n) }
 {
     let text = list_octets(inline, little);
     let len = text.len();

@@ -1,5 +1,5 @@
 -- A submessage is read in one way alone.
-use Rattle.std.proofs.Common.{◌≡◌, ℕ, ◌+◌, ◌-◌, Bool, true, false, eqb, List, length, drop, Result, Ok, Err, sym, ap, subst, ◌∙◌, inl, inr}
+use Rattle.std.proofs.Common.{◌≡◌, ◌⊎◌, ℕ, ◌+◌, ◌-◌, Bool, true, false, eqb, List, length, drop, Result, Ok, Err, sym, ap, subst, ◌∙◌, inl, inr}
 use Rattle.std.specs.Prelude.{IfOk, IfErr, IsOkAnd, IsErrAnd}
 use Rattle.rtps_params.specs.declared.inline.Inline.{Inline}
 use Rattle.rtps_params.specs.declared.parameter.ListKind.{ListKind}
@@ -17,6 +17,7 @@ use Rattle.rtps_submsg.proofs.Runs.{run, spells_run, breaks_run}
 use Rattle.rtps_submsg.specs.Headers.{Framed, Frames, HeadBreaks}
 use Rattle.rtps_submsg.specs.HeaderSteps.{framed_at}
 use Rattle.rtps_submsg.proofs.Headers.{frames_read, head_breaks_read}
+use Rattle.rtps_submsg.specs.OneReading.{SomeSub, SomeBreak, HasOneReading}
 use Rattle.rtps_submsg.specs.Subs.{SpellsBy, BreaksBy, SubSpells, SubBreaks, SameData, SameSub}
 
 -- ---- a result is one thing
@@ -142,3 +143,17 @@ spelt_by bytes (Err f) ok err s n y = absurd (sub_never bytes s n f.at f.kind y 
 pub broken_by : (bytes : List ℕ) (r : Result (Sub × ℕ) SubFault) → IfOk r (λ x. SubSpells bytes x.0 x.1) → IfErr r (λ f. SubBreaks bytes f.at f.kind) → (at : ℕ) (kind : SubKind) → SubBreaks bytes at kind → IsErrAnd r (λ f. (f.at ≡ at) × (f.kind ≡ kind))
 broken_by bytes (Ok x) ok err at kind y = absurd (sub_never bytes x.0 x.1 at kind ok y)
 broken_by bytes (Err f) ok err at kind y = sub_breaks bytes f.at at f.kind kind err y
+
+-- ---- one reading
+
+either_by : (bytes : List ℕ) (r : Result (Sub × ℕ) SubFault) → IfOk r (λ x. SubSpells bytes x.0 x.1) → IfErr r (λ f. SubBreaks bytes f.at f.kind) → SomeSub bytes ⊎ SomeBreak bytes
+either_by bytes (Ok x) ok err = inl (record { sub = x.0; n = x.1; spells = ok })
+either_by bytes (Err f) ok err = inr (record { at = f.at; kind = f.kind; breaks = err })
+
+pub reads_once : (bytes : List ℕ) (r : Result (Sub × ℕ) SubFault) → IfOk r (λ x. SubSpells bytes x.0 x.1) → IfErr r (λ f. SubBreaks bytes f.at f.kind) → HasOneReading bytes
+reads_once bytes r ok err = record {
+  either = either_by bytes r ok err;
+  apart = λ x y. sub_never bytes x.sub x.n y.at y.kind x.spells y.breaks;
+  one_sub = λ x y. sub_once bytes x.sub y.sub x.n y.n x.spells y.spells;
+  one_break = λ x y. sub_breaks bytes x.at y.at x.kind y.kind x.breaks y.breaks;
+}

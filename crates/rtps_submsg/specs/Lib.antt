@@ -4,6 +4,7 @@ pub mod Rows
 pub mod Data
 pub mod Headers
 pub mod Subs
+pub mod OneReading
 pub mod Writing
 pub mod First
 pub mod HeaderSteps

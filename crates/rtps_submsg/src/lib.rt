@@ -5,12 +5,14 @@ mod body;
 mod data;
 mod field;
 mod first;
+mod laws;
 mod reading;
 mod set;
 mod sub;
 mod writing;
 
 pub use first::{FirstData, first_data};
+pub use laws::one_reading;
 pub use reading::read_sub;
 pub use sub::{DataSub, Sub, SubFault, SubKind};
 pub use writing::write_sub;
