@@ -1,7 +1,7 @@
 //! Sets of sequence numbers, as ACKNACK and GAP carry them (DDSI-RTPS 9.4.2.6).
 
 ghost use Rattle.std.specs.Prelude.{◌≡◌, ℕ, ◌+◌, ◌*◌, ◌<◌, ◌≤◌, ◌==◌, ◌||◌, length};
-ghost use Rattle.dur_base.specs.NumberSets.{names, has_bit, width_of, set_of, empty_set};
+ghost use Rattle.dur_base.specs.NumberSets.{names, has_bit, width_of, set_of, empty_set, IsNormal};
 
 use crate::Number;
 use std::marker::Model;
@@ -100,6 +100,14 @@ impl Bits {
         ensures { result.now ≡ self.now.words }
     {
         &self.words
+    }
+
+    /// The words of its bits, of which none is set from `count` on.
+    pub fn to_words(self) -> [u32; 8]
+        ensures value { result ≡ self.words }
+        ensures normal { IsNormal self.count self.words }
+    {
+        self.words
     }
 
     /// Whether bit i is set.
