@@ -1,12 +1,12 @@
 -- The one text of a submessage that is written.
-use Rattle.std.specs.Prelude.{ℕ, ◌+◌, ◌/◌, ◌≤◌, Bool, List, [], ◌∷◌, ◌++◌, length, take, Some, None, if◌then◌else◌}
+use Rattle.std.specs.Prelude.{◌≡◌, ℕ, ◌+◌, ◌-◌, ◌/◌, ◌^◌, ◌<◌, ◌≤◌, get_or, Bool, List, [], ◌∷◌, ◌++◌, length, take, Some, None, if◌then◌else◌}
 use Rattle.std.specs.List.{flat_map}
 use Rattle.std.specs.Int.{w16, w32}
-use Rattle.dur_base.specs.NumberSets.{NumberSet}
+use Rattle.dur_base.specs.NumberSets.{NumberSet, IsNormal}
 use Rattle.dur_base.specs.declared.sample.Form.{Form}
 use Rattle.dur_base.specs.declared.sample.Form.TheVariants as forms
 use Rattle.dur_base.specs.Fields.{octets, sequence_octets}
-use Rattle.rtps_params.specs.Writing.{list_text, IsWritable}
+use Rattle.rtps_params.specs.Writing.{list_text, IsWritable, IsWholeKey, IsWholeOriginal, IsMarkOfNumber}
 use Rattle.rtps_submsg.specs.declared.sub.DataSub.{DataSub}
 use Rattle.rtps_submsg.specs.declared.sub.Sub.{Sub}
 use Rattle.rtps_submsg.specs.declared.sub.Sub.TheVariants.{Pad, InfoTs, InfoDst, InfoSrc, Data, Heartbeat, AckNack, Gap, Other}
@@ -85,13 +85,80 @@ header_text little s = (id_of s ∷ (own_flags s + flag little 0x01) ∷ []) ++ 
 unfoldable pub sub_text : Bool → Sub → List ℕ
 sub_text little s = header_text little s ++ (body_text little s ++ payload_text s)
 
-abbrev pub CanBeWritten : Sub → Type 0
-CanBeWritten (Data d) = IsWritable d.inline
-CanBeWritten (AckNack reader writer set count is_final) = set.count ≤ 256
-CanBeWritten (Gap reader writer start set) = set.count ≤ 256
-CanBeWritten (Other id) = ⊥
-CanBeWritten _ = Unit {0}
+-- ---- what can be written
 
-pub record IsWritten (little : Bool) (s : Sub) : Type 0 where
-  pub can : CanBeWritten s
+-- every kind but Other has a text
+abbrev pub IsKnown : Sub → Type 0
+IsKnown (Other id) = ⊥
+IsKnown _ = Unit {0}
+
+-- and octetsToNextHeader can say the length of its body
+pub record HasText (little : Bool) (s : Sub) : Type 0 where
+  pub known : IsKnown s
   pub fits : length (body_text little s) + length (payload_text s) ≤ 65535
+
+-- no octets where the form says that there are none
+abbrev pub IsPayloadOf : Form → List ℕ → Type 0
+IsPayloadOf forms.Nothing payload = payload ≡ []
+IsPayloadOf forms.Data payload = Unit {0}
+IsPayloadOf forms.KeyOnly payload = Unit {0}
+
+pub record IsDataInRange (d : DataSub) : Type 0 where
+  pub inline : IsWritable d.inline
+  pub number : d.number ≤ 2 ^ 63 - 2
+  pub payload : IsPayloadOf d.form d.payload.now
+
+-- What reads again as itself: its fields lie in the ranges of the table.
+abbrev pub IsInRange : Sub → Type 0
+IsInRange (Data d) = IsDataInRange d
+IsInRange (Heartbeat reader writer first last count is_final liveliness) = (last < 2 ^ 63) × (first ≤ last + 1)
+IsInRange _ = Unit {0}
+
+-- ---- what the types of the fields know
+
+pub record IsNumberSet (set : NumberSet) : Type 0 where
+  pub least : 1 ≤ set.base
+  pub most : set.base < 2 ^ 63
+  pub eight : length set.words ≡ 8
+  pub words : (i : ℕ) → get_or set.words i 0 < 2 ^ 32
+  pub normal : IsNormal set.count set.words
+
+pub record IsEntities (reader writer : List ℕ) : Type 0 where
+  pub of_reader : length reader ≡ 4
+  pub of_writer : length writer ≡ 4
+
+pub record IsDataTyped (d : DataSub) : Type 0 where
+  pub entities : IsEntities d.reader d.writer
+  pub number : 1 ≤ d.number
+  pub key : IsWholeKey d.inline.hash
+  pub original : IsWholeOriginal d.inline.original
+  pub mark : IsMarkOfNumber d.inline.set
+
+pub record IsHeartbeatTyped (reader writer : List ℕ) (first count : ℕ) : Type 0 where
+  pub entities : IsEntities reader writer
+  pub least : 1 ≤ first
+  pub most : first < 2 ^ 63
+  pub small : count < 2 ^ 32
+
+pub record IsAckNackTyped (reader writer : List ℕ) (set : NumberSet) (count : ℕ) : Type 0 where
+  pub entities : IsEntities reader writer
+  pub numbers : IsNumberSet set
+  pub small : count < 2 ^ 32
+
+pub record IsGapTyped (reader writer : List ℕ) (start : ℕ) (set : NumberSet) : Type 0 where
+  pub entities : IsEntities reader writer
+  pub least : 1 ≤ start
+  pub most : start < 2 ^ 63
+  pub numbers : IsNumberSet set
+
+abbrev pub IsTyped : Sub → Type 0
+IsTyped Pad = Unit {0}
+IsTyped (InfoTs None) = Unit {0}
+IsTyped (InfoTs (Some ticks)) = ticks < 2 ^ 64
+IsTyped (InfoDst prefix) = length prefix ≡ 12
+IsTyped (InfoSrc prefix) = length prefix ≡ 12
+IsTyped (Data d) = IsDataTyped d
+IsTyped (Heartbeat reader writer first last count is_final liveliness) = IsHeartbeatTyped reader writer first count
+IsTyped (AckNack reader writer set count is_final) = IsAckNackTyped reader writer set count
+IsTyped (Gap reader writer start set) = IsGapTyped reader writer start set
+IsTyped (Other id) = Unit {0}

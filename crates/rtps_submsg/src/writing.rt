@@ -3,8 +3,7 @@
 ghost use Rattle.std.specs.Prelude.{◌≡◌, ◌≤◌, ◌<◌, ◌+◌, ◌*◌, ◌/◌, ◌++◌, ◌↔◌, [], ◌∷◌, length, drop, take, IsErr, IfOk, OnErr};
 ghost use Rattle.std.specs.Int.{w16};
 ghost use Rattle.dur_base.specs.Fields.{octets};
-ghost use Rattle.rtps_params.specs.Writing.{IsWritable};
-ghost use Rattle.rtps_submsg.specs.Writing.{set_text, data_text, heartbeat_text, acknack_text, gap_text, body_text, payload_text, id_of, own_flags, flag, form_flag, header_text, sub_text, CanBeWritten, IsWritten};
+ghost use Rattle.rtps_submsg.specs.Writing.{set_text, data_text, heartbeat_text, acknack_text, gap_text, body_text, payload_text, id_of, own_flags, flag, form_flag, header_text, sub_text, HasText, IsKnown, IsInRange, IsTyped, IsNumberSet, IsEntities, IsDataTyped, IsHeartbeatTyped, IsAckNackTyped, IsGapTyped};
 
 use crate::sub::{DataSub, Sub};
 use arrayvec::ArrayVec;
@@ -26,19 +25,21 @@ fn put_set(text: &mut ArrayVec<u8, 128>, set: &Bits, little: bool)
     requires room { length text.old.items + 44 ≤ 128 }
     ensures text { text.new.items ≡ text.old.items ++ set_text little set.now }
     ensures len { length text.new.items ≤ length text.old.items + 44 }
+    ensures typed { IsNumberSet set.now }
 {
     put(text, &octets_of_sequence(set.base().get(), little));
     put(text, &u32_octets(set.count(), little));
-    let (words, _) = set.words().split_at(set.count().div_ceil(32) as usize);
-    for word in words {
+    let words = set.to_words();
+    let (used, _) = words.split_at(set.count().div_ceil(32) as usize);
+    for word in used {
         put(text, &u32_octets(*word, little));
     }
 }
 
 #[tactic(auto, unfolding(crate::specs::Writing::data_text))]
 fn data_octets(d: &DataSub, little: bool) -> ArrayVec<u8, 128>
-    requires { IsWritable d.now.inline }
-    ensures { result.items ≡ data_text little d.now }
+    ensures text { result.items ≡ data_text little d.now }
+    ensures typed { IsDataTyped d.now }
 {
     let mut text = ArrayVec::new();
     put(&mut text, &u16_octets(0, little));
@@ -60,7 +61,8 @@ fn heartbeat_octets(
     count: u32,
     little: bool,
 ) -> ArrayVec<u8, 128>
-    ensures { result.items ≡ heartbeat_text little reader writer first last count }
+    ensures text { result.items ≡ heartbeat_text little reader writer first last count }
+    ensures typed { IsHeartbeatTyped reader writer first count }
 {
     let mut text = ArrayVec::new();
     put(&mut text, &reader.0);
@@ -79,7 +81,8 @@ fn acknack_octets(
     count: u32,
     little: bool,
 ) -> ArrayVec<u8, 128>
-    ensures { result.items ≡ acknack_text little reader writer set.now count }
+    ensures text { result.items ≡ acknack_text little reader writer set.now count }
+    ensures typed { IsAckNackTyped reader writer set.now count }
 {
     let mut text = ArrayVec::new();
     put(&mut text, &reader.0);
@@ -97,7 +100,8 @@ fn gap_octets(
     set: &Bits,
     little: bool,
 ) -> ArrayVec<u8, 128>
-    ensures { result.items ≡ gap_text little reader writer start set.now }
+    ensures text { result.items ≡ gap_text little reader writer start set.now }
+    ensures typed { IsGapTyped reader writer start set.now }
 {
     let mut text = ArrayVec::new();
     put(&mut text, &reader.0);
@@ -125,8 +129,9 @@ fn info_src_octets(prefix: &[u8; 12]) -> ArrayVec<u8, 128>
 }
 
 fn body_octets(sub: &Sub, little: bool) -> ArrayVec<u8, 128>
-    requires { CanBeWritten sub.now }
-    ensures { result.items ≡ body_text little sub.now }
+    requires { IsKnown sub.now }
+    ensures text { result.items ≡ body_text little sub.now }
+    ensures typed { IsTyped sub.now }
 {
     match sub {
         Sub::Pad | Sub::InfoTs(None) | Sub::Other(_) => ArrayVec::new(),
@@ -242,7 +247,7 @@ fn place(out: &mut [u8], header: &[u8; 4], body: &[u8], payload: &[u8])
 /// Writes the text of the submessage to the front, and says how many octets it takes.
 #[tactic(auto, using(crate::proofs::Text::length_sub), unfolding(crate::specs::Writing::sub_text))]
 pub fn write_sub(sub: &Sub, little: bool, out: &mut [u8]) -> Result<usize, Short>
-    requires { IsWritten little sub.now }
+    requires { HasText little sub.now }
     ensures ok { IfOk result (λ n. n ≡ length (sub_text little sub.now)) }
     ensures text { IfOk result (λ n. out.new ≡ sub_text little sub.now ++ drop n out.old) }
     ensures short { IsErr result ↔ (length out.old < length (sub_text little sub.now)) }

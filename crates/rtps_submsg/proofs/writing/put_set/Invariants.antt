@@ -6,6 +6,6 @@ use Rattle.rtps_submsg.proofs.writing.put_set.Given as goal
 
 abbrev pub invariant-loop-word : goal.invariant-loop-word
 invariant-loop-word l = record {
-  text : l.text.items ≡ l.initial.text.items ++ flat_map (λ word. octets l.little w32 word) (take l.word-index l.words);
+  text : l.text.items ≡ l.initial.text.items ++ flat_map (λ word. octets l.little w32 word) (take l.word-index l.used);
   len : length l.text.items ≡ length l.initial.text.items + 4 * l.word-index;
 }
