@@ -1,8 +1,9 @@
 //! Writing the one text of a submessage.
 
-ghost use Rattle.std.specs.Prelude.{◌≡◌, ◌≤◌, ◌<◌, ◌+◌, ◌*◌, ◌/◌, ◌++◌, ◌↔◌, [], ◌∷◌, length, drop, take, IsErr, IfOk, OnErr};
+ghost use Rattle.std.specs.Prelude.{◌≡◌, ◌≤◌, ◌<◌, ◌+◌, ◌*◌, ◌/◌, ◌++◌, ◌↔◌, [], ◌∷◌, List, ℕ, length, drop, take, IsErr, IfOk, OnErr};
 ghost use Rattle.std.specs.Int.{w16};
 ghost use Rattle.dur_base.specs.Fields.{octets};
+ghost use Rattle.rtps_submsg.specs.Subs.{SubSpells};
 ghost use Rattle.rtps_submsg.specs.Writing.{set_text, data_text, heartbeat_text, acknack_text, gap_text, body_text, payload_text, id_of, own_flags, flag, form_flag, header_text, sub_text, HasText, IsKnown, IsInRange, IsTyped, IsNumberSet, IsEntities, IsDataTyped, IsHeartbeatTyped, IsAckNackTyped, IsGapTyped};
 
 use crate::sub::{DataSub, Sub};
@@ -244,7 +245,12 @@ fn place(out: &mut [u8], header: &[u8; 4], body: &[u8], payload: &[u8])
     end.copy_from_slice(payload);
 }
 
-/// Writes the text of the submessage to the front, and says how many octets it takes.
+/// Writes the one text of the submessage to the front of `out`, and says how many octets it takes: a DATA
+/// with extraFlags 0, octetsToInlineQos 16 and a list, also an empty one; an INFO_SRC of version 2.5 and
+/// vendor 0000; zeros where nothing is said. It is `Short`, and `out` unchanged, exactly where the text is
+/// longer than `out`. Conditions: it is not `Other`, and its body has at most 65,535 octets. Where its
+/// fields lie in the ranges of the table, the text reads again as it and takes exactly its octets,
+/// whatever follows (DDSI-RTPS 9.4).
 #[tactic(auto, using(crate::proofs::Text::length_sub), unfolding(crate::specs::Writing::sub_text))]
 pub fn write_sub(sub: &Sub, little: bool, out: &mut [u8]) -> Result<usize, Short>
     requires { HasText little sub.now }
@@ -252,6 +258,7 @@ pub fn write_sub(sub: &Sub, little: bool, out: &mut [u8]) -> Result<usize, Short
     ensures text { IfOk result (λ n. out.new ≡ sub_text little sub.now ++ drop n out.old) }
     ensures short { IsErr result ↔ (length out.old < length (sub_text little sub.now)) }
     ensures unchanged { OnErr result (out.new ≡ out.old) }
+    ensures back { IsInRange sub.now → IfOk result (λ n. (rest : List ℕ) → SubSpells (take n out.new ++ rest) sub.now n) }
 {
     let body = body_octets(sub, little);
     let payload = payload(sub);
