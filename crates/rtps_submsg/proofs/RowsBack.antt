@@ -26,11 +26,28 @@ pub info_dst_back : (prefix rest : List ℕ) → length prefix ≡ 12 → Spells
 info_dst_back prefix rest len = field_back 12 any (λ p. ends (InfoDst p)) prefix rest (InfoDst prefix) len refl refl
 
 pub info_src_back : (prefix rest : List ℕ) → length prefix ≡ 12 → Spells info_src_row (((0 ∷ 0 ∷ 0 ∷ 0 ∷ 2 ∷ 5 ∷ 0 ∷ 0 ∷ []) ++ prefix) ++ rest) (InfoSrc prefix)
-info_src_back prefix rest len =
-    (0 ∷ 0 ∷ 0 ∷ 0 ∷ [], 2 ∷ 5 ∷ 0 ∷ 0 ∷ (prefix ++ rest), refl, refl, refl,
-    (2 ∷ 5 ∷ [], 0 ∷ 0 ∷ (prefix ++ rest), refl, refl, refl,
-    (0 ∷ 0 ∷ [], prefix ++ rest, refl, refl, refl,
-    (prefix, rest, refl, len, refl, refl))))
+info_src_back prefix rest len = (
+  0 ∷ 0 ∷ 0 ∷ 0 ∷ [],
+  2 ∷ 5 ∷ 0 ∷ 0 ∷ (prefix ++ rest),
+  refl,
+  refl,
+  refl,
+  (
+    2 ∷ 5 ∷ [],
+    0 ∷ 0 ∷ (prefix ++ rest),
+    refl,
+    refl,
+    refl,
+    (
+      0 ∷ 0 ∷ [],
+      prefix ++ rest,
+      refl,
+      refl,
+      refl,
+      (prefix, rest, refl, len, refl, refl),
+    ),
+  ),
+)
 
 pub info_ts_back : (little : Bool) (flags ticks : ℕ) (rest : List ℕ) → has flags 0x02 ≡ false → ticks < 2 ^ 64 → Spells (info_ts_row little flags) (sequence_octets little ticks ++ rest) (InfoTs (Some ticks))
 unfolding sequence_octets
@@ -40,9 +57,21 @@ info_ts_back little flags ticks rest there lt =
     let high : number little w32 seconds ≡ ticks / 2 ^ 32 = word_self little (ticks / 2 ^ 32) (omega (arith, lt)) in
     let low : number little w32 fraction ≡ ticks % 2 ^ 32 = word_self little (ticks % 2 ^ 32) (omega arith) in
     let whole : ticks / 2 ^ 32 * 2 ^ 32 + ticks % 2 ^ 32 ≡ ticks = omega arith in
-    rw there (seconds, fraction ++ rest, append_assoc seconds fraction rest, length_32 little (ticks / 2 ^ 32), refl,
-    (fraction, rest, refl, length_32 little (ticks % 2 ^ 32), refl,
-    ap (λ (n : ℕ). InfoTs (Some n)) (sym (ap (λ (n : ℕ). n * 2 ^ 32 + number little w32 fraction) high ∙ ap (λ (n : ℕ). ticks / 2 ^ 32 * 2 ^ 32 + n) low ∙ whole))))
+    rw there (
+      seconds,
+      fraction ++ rest,
+      append_assoc seconds fraction rest,
+      length_32 little (ticks / 2 ^ 32),
+      refl,
+      (
+        fraction,
+        rest,
+        refl,
+        length_32 little (ticks % 2 ^ 32),
+        refl,
+        ap (λ (n : ℕ). InfoTs (Some n)) (sym (ap (λ (n : ℕ). n * 2 ^ 32 + number little w32 fraction) high ∙ ap (λ (n : ℕ). ticks / 2 ^ 32 * 2 ^ 32 + n) low ∙ whole)),
+      ),
+    )
 
 pub acknack_back : (little : Bool) (flags : ℕ) (reader writer : List ℕ) (set : NumberSet) (count : ℕ) (rest : List ℕ) → IsEntities reader writer → IsNumberSet set → count < 2 ^ 32
     → Spells (acknack_row little flags) (acknack_text little reader writer set count ++ rest) (AckNack reader writer set count (has flags 0x02))
@@ -53,10 +82,21 @@ acknack_back little flags reader writer set count rest ids numbers small =
     let parts : (((reader ++ writer) ++ set_text little set) ++ counted) ++ rest ≡ reader ++ (writer ++ (set_text little set ++ (counted ++ rest))) = simp append_assoc in
     let next : NumberSet → Row Sub = λ s. field 4 any (λ c. ends (AckNack reader writer s (number little w32 c) (has flags 0x02))) in
     let last : Spells (next set) (counted ++ rest) told =
-    (counted, rest, refl, length_32 little count, refl, ap (λ (n : ℕ). AckNack reader writer set n (has flags 0x02)) (sym (word_self little count small))) in
-    (reader, writer ++ (set_text little set ++ (counted ++ rest)), parts, ids.of_reader, refl,
-    (writer, set_text little set ++ (counted ++ rest), refl, ids.of_writer, refl,
-    set_spells little true next set (counted ++ rest) told numbers last))
+    (counted, rest, refl, length_32 little count, refl, ap (λ (n : ℕ). AckNack reader writer set n (has flags 0x02)) (sym (word_self little count small))) in (
+      reader,
+      writer ++ (set_text little set ++ (counted ++ rest)),
+      parts,
+      ids.of_reader,
+      refl,
+      (
+        writer,
+        set_text little set ++ (counted ++ rest),
+        refl,
+        ids.of_writer,
+        refl,
+        set_spells little true next set (counted ++ rest) told numbers last,
+      ),
+    )
 
 number_good : (little : Bool) (n : ℕ) (rest : List ℕ) → 1 ≤ n → n < 2 ^ 63 → number_rule little (sequence_octets little n) rest ≡ None
 number_good little n rest least most = rw (sequence_self little n (omega (arith, most)), le-leb 1 n least, lt-ltb n (2 ^ 63) most) refl
@@ -69,11 +109,28 @@ gap_back little reader writer start set rest ids least most numbers =
     let told : Sub = Gap reader writer start set in
     let parts : (((reader ++ writer) ++ begin) ++ set_text little set) ++ rest ≡ reader ++ (writer ++ (begin ++ (set_text little set ++ rest))) = simp append_assoc in
     let next : NumberSet → Row Sub = λ s. ends (Gap reader writer (sequence little begin) s) in
-    let last : Spells (next set) rest told = ap (λ (n : ℕ). Gap reader writer n set) (sym (sequence_self little start (omega (arith, most)))) in
-    (reader, writer ++ (begin ++ (set_text little set ++ rest)), parts, ids.of_reader, refl,
-    (writer, begin ++ (set_text little set ++ rest), refl, ids.of_writer, refl,
-    (begin, set_text little set ++ rest, refl, length_sequence little start, number_good little start (set_text little set ++ rest) least most,
-    set_spells little false next set rest told numbers last)))
+    let last : Spells (next set) rest told = ap (λ (n : ℕ). Gap reader writer n set) (sym (sequence_self little start (omega (arith, most)))) in (
+      reader,
+      writer ++ (begin ++ (set_text little set ++ rest)),
+      parts,
+      ids.of_reader,
+      refl,
+      (
+        writer,
+        begin ++ (set_text little set ++ rest),
+        refl,
+        ids.of_writer,
+        refl,
+        (
+          begin,
+          set_text little set ++ rest,
+          refl,
+          length_sequence little start,
+          number_good little start (set_text little set ++ rest) least most,
+          set_spells little false next set rest told numbers last,
+        ),
+      ),
+    )
 
 pub heartbeat_back : (little : Bool) (flags : ℕ) (reader writer : List ℕ) (first last count : ℕ) (rest : List ℕ) → IsEntities reader writer → 1 ≤ first → first < 2 ^ 63 → last < 2 ^ 63 → first ≤ last + 1 → count < 2 ^ 32
     → Spells (heartbeat_row little flags) (heartbeat_text little reader writer first last count ++ rest) (Heartbeat reader writer first last count (has flags 0x02) (has flags 0x04))
@@ -87,12 +144,35 @@ heartbeat_back little flags reader writer first last count rest ids least most b
     let told : ℕ → ℕ → ℕ → Sub = λ x y z. Heartbeat reader writer x y z (has flags 0x02) (has flags 0x04) in
     let same : told first last count ≡ told (sequence little a) (sequence little b) (number little w32 c) =
     sym (ap (λ (x : ℕ). told x (sequence little b) (number little w32 c)) first_is ∙ ap (λ (y : ℕ). told first y (number little w32 c)) last_is ∙ ap (told first last) (word_self little count small)) in
-    let parts : ((((reader ++ writer) ++ a) ++ b) ++ c) ++ rest ≡ reader ++ (writer ++ (a ++ (b ++ (c ++ rest)))) = simp append_assoc in
-    (reader, writer ++ (a ++ (b ++ (c ++ rest))), parts, ids.of_reader, refl,
-    (writer, a ++ (b ++ (c ++ rest)), refl, ids.of_writer, refl,
-    (a, b ++ (c ++ rest), refl, length_sequence little first, number_good little first (b ++ (c ++ rest)) least most,
-    (b, c ++ rest, refl, length_sequence little last, rw (first_is, last_is, lt-ltb last (2 ^ 63) below, le-leb first (last + 1) range) refl,
-    (c, rest, refl, length_32 little count, refl, same)))))
+    let parts : ((((reader ++ writer) ++ a) ++ b) ++ c) ++ rest ≡ reader ++ (writer ++ (a ++ (b ++ (c ++ rest)))) = simp append_assoc in (
+      reader,
+      writer ++ (a ++ (b ++ (c ++ rest))),
+      parts,
+      ids.of_reader,
+      refl,
+      (
+        writer,
+        a ++ (b ++ (c ++ rest)),
+        refl,
+        ids.of_writer,
+        refl,
+        (
+          a,
+          b ++ (c ++ rest),
+          refl,
+          length_sequence little first,
+          number_good little first (b ++ (c ++ rest)) least most,
+          (
+            b,
+            c ++ rest,
+            refl,
+            length_sequence little last,
+            rw (first_is, last_is, lt-ltb last (2 ^ 63) below, le-leb first (last + 1) range) refl,
+            (c, rest, refl, length_32 little count, refl, same),
+          ),
+        ),
+      ),
+    )
 
 -- ---- the head of a DATA
 
@@ -124,9 +204,32 @@ head_back little reader writer behind n ids least most =
     let room : 16 ≤ length after = omega (arith, length-append reader (writer ++ (numbered ++ behind)), length-append writer (numbered ++ behind), length-append numbered behind, ids.of_reader, ids.of_writer, length_sequence little n) in
     let told : ℕ → List ℕ → Head = λ m b. record { reader = reader; writer = writer; number = m; behind = b } in
     let place : drop (number little w16 offset) (drop 4 body) ≡ behind = ap (λ (m : ℕ). drop m (drop 4 body)) offset_is ∙ behind_is little reader writer behind n ids in
-    let same : told n behind ≡ told (sequence little numbered) (drop (number little w16 offset) (drop 4 body)) = sym (ap (λ (m : ℕ). told m (drop (number little w16 offset) (drop 4 body))) number_is ∙ ap (told n) place) in
-    (octets little w16 0, offset ++ after, refl, length_16 little 0, refl,
-    (offset, after, refl, length_16 little 16, rw (offset_is, le-leb 16 (length after) room) refl,
-    (reader, writer ++ (numbered ++ behind), refl, ids.of_reader, refl,
-    (writer, numbered ++ behind, refl, ids.of_writer, refl,
-    (numbered, behind, refl, length_sequence little n, sample_good little n behind least most, same)))))
+    let same : told n behind ≡ told (sequence little numbered) (drop (number little w16 offset) (drop 4 body)) = sym (ap (λ (m : ℕ). told m (drop (number little w16 offset) (drop 4 body))) number_is ∙ ap (told n) place) in (
+      octets little w16 0,
+      offset ++ after,
+      refl,
+      length_16 little 0,
+      refl,
+      (
+        offset,
+        after,
+        refl,
+        length_16 little 16,
+        rw (offset_is, le-leb 16 (length after) room) refl,
+        (
+          reader,
+          writer ++ (numbered ++ behind),
+          refl,
+          ids.of_reader,
+          refl,
+          (
+            writer,
+            numbered ++ behind,
+            refl,
+            ids.of_writer,
+            refl,
+            (numbered, behind, refl, length_sequence little n, sample_good little n behind least most, same),
+          ),
+        ),
+      ),
+    )

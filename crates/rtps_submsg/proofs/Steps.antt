@@ -201,9 +201,11 @@ set_same : (little is_ack : Bool) (next : NumberSet → Row Sub) (body : List �
 unfolding set_at
 set_same little is_ack next body k further =
     bind_assoc (base_at little is_ack body) (λ base. u32_at little base.1 >>= λ bits. bits_at little base.0 bits.0 body base.1 bits.1) k
-    ∙ (base_step little is_ack (λ base. field 4 (bits_rule little (sequence little base)) (λ bits. bits_row little (sequence little base) (number little w32 bits) next)) body (λ base. (u32_at little base.1 >>= λ bits. bits_at little base.0 bits.0 body base.1 bits.1) >>= k) (λ base behind parts eight. record { same =
-        bind_assoc (u32_at little behind) (λ bits. bits_at little (sequence little base) bits.0 body behind bits.1) k
-        ∙ counted_step little next k further (sequence little base) body behind (omega (arith, ap length parts, length-append base behind, eight)) })).same
+    ∙ (base_step little is_ack (λ base. field 4 (bits_rule little (sequence little base)) (λ bits. bits_row little (sequence little base) (number little w32 bits) next)) body (λ base. (u32_at little base.1 >>= λ bits. bits_at little base.0 bits.0 body base.1 bits.1) >>= k) (λ base behind parts eight. record {
+      same =
+          bind_assoc (u32_at little behind) (λ bits. bits_at little (sequence little base) bits.0 body behind bits.1) k
+          ∙ counted_step little next k further (sequence little base) body behind (omega (arith, ap length parts, length-append base behind, eight));
+    })).same
 
 set_step : (little is_ack : Bool) (next : NumberSet → Row Sub) (body : List ℕ) (k : NumberSet × List ℕ → Result Sub Broken)
     → ((set : NumberSet) (rest : List ℕ) → Goes (k (set, rest)) (next set) rest) → Goes (set_at little is_ack body >>= k) (set_row little is_ack next) body
@@ -287,6 +289,6 @@ head_step little body =
     octets_step 4 _ behind_reader _ (λ writer behind_writer i j.
     sample_number_step little _ behind_writer _ (λ numbered rest i j.
     record { same = ap (λ (x : List ℕ). head_told reader writer (sequence little numbered) (drop (number little w16 offset) x)) (behind_both body extra behind_extra offset behind e f g h) })))))
-    where
-      head_told : List ℕ → List ℕ → ℕ → List ℕ → Result Head Broken
-      head_told reader writer n behind = Ok (record { reader = reader; writer = writer; number = n; behind = behind })
+  where
+    head_told : List ℕ → List ℕ → ℕ → List ℕ → Result Head Broken
+    head_told reader writer n behind = Ok (record { reader = reader; writer = writer; number = n; behind = behind })

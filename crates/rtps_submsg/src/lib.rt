@@ -16,3 +16,6 @@ pub use laws::one_reading;
 pub use reading::read_sub;
 pub use sub::{DataSub, Sub, SubFault, SubKind};
 pub use writing::write_sub;
+
+#[cfg(test)]
+mod tests;
