@@ -1,10 +1,10 @@
 -- What the reader's steps find is what the grammar says.
-use Rattle.std.proofs.Common.{◌≡◌, ℕ, Bool, List, Result, Ok, Err, sym, ap, ◌∙◌, inr}
+use Rattle.std.proofs.Common.{◌≡◌, ℕ, Bool, List, Ok, Err, sym, ap, ◌∙◌, inr}
 use Rattle.rtps_submsg.specs.declared.field.Broken.{Broken}
 use Rattle.dur_base.specs.declared.sample.Form.{Form}
 use Rattle.rtps_submsg.specs.declared.sub.DataSub.{DataSub}
 use Rattle.rtps_submsg.specs.declared.sub.Sub.{Sub}
-use Rattle.rtps_submsg.specs.Grammar.{Row, Spells, Breaks}
+use Rattle.rtps_submsg.specs.Grammar.{Spells, Breaks}
 use Rattle.rtps_submsg.specs.Rows.{has, row_of}
 use Rattle.rtps_submsg.specs.RowSteps.{plain_at}
 use Rattle.rtps_submsg.specs.Data.{Head, head_row, form_of, payload_of, InlineSpells, InlineBreaks, DataSpells, DataBreaks}

@@ -1,6 +1,6 @@
 -- A header is read as what it says, and any octets have a header or break.
-use Rattle.std.proofs.Common.{◌≡◌, ℕ, suc, ◌+◌, ◌<◌, ◌≤◌, ◌^◌, Bool, true, false, List, [], ◌∷◌, ◌++◌, length, take, drop, Result, Ok, Err, refl, sym, ap, subst, ◌∙◌, inl, inr, arith}
-use Rattle.std.specs.Prelude.{slice_index, nat_lt, if◌then◌else◌}
+use Rattle.std.proofs.Common.{◌≡◌, ℕ, suc, ◌<◌, ◌≤◌, Bool, true, false, List, [], ◌∷◌, ◌++◌, length, take, drop, Result, Ok, Err, refl, sym, ap, subst, ◌∙◌, inl, inr, arith}
+use Rattle.std.specs.Prelude.{slice_index}
 use Rattle.std.specs.Int.{w16}
 use Rattle.std.proofs.lemmas.Bool.{cases_lt, lt-ltb, le-ltb}
 use Rattle.std.proofs.lemmas.List.{take_at, drop_at, take-append-drop, length-append, length-take}
@@ -11,7 +11,7 @@ use Rattle.rtps_submsg.specs.declared.sub.SubFault.{SubFault}
 use Rattle.rtps_submsg.specs.declared.sub.SubKind.{SubKind}
 use Rattle.rtps_submsg.specs.declared.sub.SubKind.TheVariants.{Cut, BothDataAndKey, BadNumber, BadSet, BadRange, List as InList, BadOffset}
 use Rattle.rtps_submsg.specs.Rows.{has}
-use Rattle.rtps_submsg.specs.Headers.{Heads, has_both, extent, Framed, Frames, HasBoth, IsBodyCut, HeadBreaks}
+use Rattle.rtps_submsg.specs.Headers.{Heads, has_both, extent, Framed, Frames, IsBodyCut, HeadBreaks}
 use Rattle.rtps_submsg.specs.HeaderSteps.{fault, framed, framed_at}
 
 -- ---- what a header reads as

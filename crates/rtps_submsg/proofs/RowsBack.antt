@@ -1,21 +1,17 @@
 -- What is written of each kind reads as itself.
-use Rattle.std.proofs.Common.{◌≡◌, ℕ, ◌+◌, ◌-◌, ◌*◌, ◌/◌, ◌%◌, ◌^◌, ◌<◌, ◌≤◌, Bool, true, false, List, [], ◌∷◌, ◌++◌, length, take, drop, Some, None, refl, sym, ap, subst, ◌∙◌, append_assoc, append-nil, arith}
-use Rattle.std.specs.Prelude.{nat_le, nat_lt, if◌then◌else◌}
+use Rattle.std.proofs.Common.{◌≡◌, ℕ, ◌+◌, ◌-◌, ◌*◌, ◌/◌, ◌%◌, ◌^◌, ◌<◌, ◌≤◌, Bool, true, false, List, [], ◌∷◌, ◌++◌, length, drop, Some, None, refl, sym, ap, ◌∙◌, append_assoc, arith}
 use Rattle.std.specs.Int.{w16, w32}
 use Rattle.std.proofs.lemmas.Bool.{le-leb, lt-ltb}
 use Rattle.std.proofs.lemmas.List.{length-append, drop_at}
 use Rattle.dur_base.specs.Fields.{number, octets, sequence, sequence_octets}
 use Rattle.dur_base.specs.NumberSets.{NumberSet}
 use Rattle.dur_base.proofs.FieldNumbers.{length_16, length_32, again_16, again_32, length_sequence}
-use Rattle.rtps_params.specs.Writing.{list_text, IsWritable}
-use Rattle.rtps_params.proofs.Back.{list_spells}
-use Rattle.rtps_submsg.specs.declared.sub.DataSub.{DataSub}
 use Rattle.rtps_submsg.specs.declared.sub.Sub.{Sub}
 use Rattle.rtps_submsg.specs.declared.sub.Sub.TheVariants.{InfoTs, InfoDst, InfoSrc, Heartbeat, AckNack, Gap}
-use Rattle.rtps_submsg.specs.Grammar.{Rule, Row, ends, field, any, Spells}
-use Rattle.rtps_submsg.specs.Rows.{has, number_rule, last_rule, acknack_row, heartbeat_row, gap_row, info_ts_row, info_src_row, info_dst_row, set_row}
-use Rattle.rtps_submsg.specs.Data.{Head, sample_rule, offset_rule, head_row}
-use Rattle.rtps_submsg.specs.Writing.{set_text, data_text, heartbeat_text, acknack_text, gap_text, IsNumberSet, IsEntities}
+use Rattle.rtps_submsg.specs.Grammar.{Row, ends, field, any, Spells}
+use Rattle.rtps_submsg.specs.Rows.{has, number_rule, acknack_row, heartbeat_row, gap_row, info_ts_row, info_src_row, info_dst_row}
+use Rattle.rtps_submsg.specs.Data.{Head, sample_rule, head_row}
+use Rattle.rtps_submsg.specs.Writing.{set_text, heartbeat_text, acknack_text, gap_text, IsNumberSet, IsEntities}
 use Rattle.rtps_submsg.proofs.SetBack.{field_back, sequence_self, set_spells}
 
 -- a number and what stands for it

@@ -1,12 +1,12 @@
 -- Going over the fields of a row from left to right, and that this finds what the grammar says.
-use Rattle.std.proofs.Common.{◌≡◌, ℕ, ◌+◌, ◌<◌, ◌≤◌, Bool, List, ◌++◌, length, take, drop, Option, Some, None, Result, Ok, Err, refl, sym, ap, subst, ◌∙◌, inl, inr, arith}
+use Rattle.std.proofs.Common.{◌≡◌, ℕ, ◌+◌, ◌<◌, ◌≤◌, List, ◌++◌, length, take, drop, Option, Some, None, Result, Ok, Err, refl, sym, ap, ◌∙◌, inl, inr, arith}
 use Rattle.std.specs.Prelude.{nat_lt, if◌then◌else◌}
 use Rattle.std.proofs.lemmas.Bool.{cases_lt, lt-ltb, le-ltb}
 use Rattle.std.proofs.lemmas.List.{take_at, drop_at, take-append-drop, length-append, length-take}
 use Rattle.rtps_submsg.specs.declared.field.Broken.{Broken}
 use Rattle.rtps_submsg.specs.declared.sub.SubKind.{SubKind}
 use Rattle.rtps_submsg.specs.declared.sub.SubKind.TheVariants.{Cut}
-use Rattle.rtps_submsg.specs.Grammar.{Bad, Rule, Row, ends, field, Spells, IsCut, IsBad, Breaks}
+use Rattle.rtps_submsg.specs.Grammar.{Bad, Rule, Row, ends, field, Spells, Breaks}
 
 abbrev pub broken : ℕ → SubKind → Broken
 broken left kind = record { left = left; kind = kind }

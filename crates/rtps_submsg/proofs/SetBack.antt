@@ -1,21 +1,21 @@
 -- A set that was written reads as itself.
-use Rattle.std.proofs.Common.{◌≡◌, ◌⊎◌, ℕ, zero, suc, ◌+◌, ◌-◌, ◌*◌, ◌/◌, ◌%◌, ◌^◌, ◌<◌, ◌≤◌, ◌==◌, Bool, true, false, List, [], ◌∷◌, ◌++◌, length, take, drop, get_or, refl, sym, ap, subst, ◌∙◌, append_assoc, append-nil, None, inl, inr, arith}
-use Rattle.std.specs.Prelude.{nat_le, nat_lt, if◌then◌else◌}
+use Rattle.std.proofs.Common.{◌≡◌, ℕ, zero, suc, ◌+◌, ◌-◌, ◌*◌, ◌/◌, ◌%◌, ◌^◌, ◌<◌, ◌≤◌, ◌==◌, Bool, true, false, List, [], ◌∷◌, ◌++◌, length, take, drop, get_or, refl, sym, ap, subst, ◌∙◌, append_assoc, append-nil, None, inl, inr, arith}
+use Rattle.std.specs.Prelude.{if◌then◌else◌}
 use Rattle.std.specs.List.{flat_map}
 use Rattle.std.specs.Int.{bit_at, w32, trailing_zeros}
 use Rattle.std.proofs.Math.Seq.{drop-append-add}
 use Rattle.std.proofs.lemmas.Bool.{cases_eq, cases_lt, eq-eqb, ne_eqb, le-leb, lt-leb, lt-ltb, le-ltb}
-use Rattle.std.proofs.lemmas.List.{take_at, drop_at, length-append, length-take, get_or-take}
+use Rattle.std.proofs.lemmas.List.{take_at, length-take, get_or-take}
 use Rattle.std.proofs.lemmas.Nat.{mod-pow-add}
 use Rattle.std.proofs.lemmas.Nat.Bits.{bit_at-lt}
 use Rattle.dur_base.specs.Fields.{number, octets, sequence, sequence_octets}
-use Rattle.dur_base.specs.NumberSets.{NumberSet, has_bit, IsClearFrom, IsNormal, width_of, set_of}
+use Rattle.dur_base.specs.NumberSets.{NumberSet, IsClearFrom, IsNormal, width_of, set_of}
 use Rattle.dur_base.proofs.FieldNumbers.{length_32, again_32, length_sequence, sequence_again}
 use Rattle.dur_base.proofs.WordBits.{width_normal}
 use Rattle.rtps_submsg.specs.declared.sub.Sub.{Sub}
-use Rattle.rtps_submsg.specs.Grammar.{Rule, Row, field, any, Spells}
+use Rattle.rtps_submsg.specs.Grammar.{Rule, Row, field, Spells}
 use Rattle.rtps_submsg.specs.Sets.{clipped, word_at, words_of}
-use Rattle.rtps_submsg.specs.Rows.{is_number, base_rule, bits_bad, bits_rule, base_read, words_row, bits_row, set_row}
+use Rattle.rtps_submsg.specs.Rows.{base_rule, bits_bad, bits_rule, base_read, words_row, bits_row, set_row}
 use Rattle.rtps_submsg.specs.Writing.{set_text, IsNumberSet}
 
 -- ---- one field

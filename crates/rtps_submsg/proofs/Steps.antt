@@ -1,8 +1,8 @@
 -- The steps that the reader takes go over the rows of the table.
-use Rattle.std.proofs.Common.{◌≡◌, ℕ, zero, suc, ◌+◌, ◌-◌, ◌*◌, ◌/◌, ◌%◌, ◌^◌, ◌<◌, ◌≤◌, Bool, true, false, List, [], ◌++◌, length, take, drop, Option, Some, None, Result, Ok, Err, refl, sym, ap, ◌∙◌, inl, inr, arith}
+use Rattle.std.proofs.Common.{◌≡◌, ℕ, zero, suc, ◌+◌, ◌-◌, ◌*◌, ◌/◌, ◌%◌, ◌^◌, ◌≤◌, Bool, true, false, List, [], ◌++◌, length, take, drop, Result, Ok, Err, refl, sym, ap, ◌∙◌, inl, inr, arith}
 use Rattle.std.specs.Prelude.{nat_lt, nat_le, ◌==◌, ◌&&◌, ◌||◌, if◌then◌else◌}
 use Rattle.std.specs.Int.{w16, w32}
-use Rattle.std.proofs.lemmas.Bool.{cases_lt, cases_eq, lt-ltb, le-ltb, lt-leb, le-leb, eq-eqb, ne_eqb}
+use Rattle.std.proofs.lemmas.Bool.{cases_lt, cases_eq, lt-ltb, le-ltb, lt-leb, le-leb, ne_eqb}
 use Rattle.std.proofs.lemmas.List.{take-append-drop, drop-drop, drop_at, length-append, length-take, length-drop}
 use Rattle.std.proofs.Math.Seq.{take-append-add}
 use Rattle.dur_base.specs.Fields.{number, sequence}
@@ -12,8 +12,8 @@ use Rattle.rtps_submsg.specs.declared.sub.Sub.{Sub}
 use Rattle.rtps_submsg.specs.declared.sub.Sub.TheVariants.{AckNack, Gap}
 use Rattle.rtps_submsg.specs.declared.sub.SubKind.{SubKind}
 use Rattle.rtps_submsg.specs.declared.sub.SubKind.TheVariants.{Cut, BadNumber, BadSet, BadRange, BadOffset}
-use Rattle.rtps_submsg.specs.Grammar.{Bad, Rule, Row, ends, field, any, only_if}
-use Rattle.rtps_submsg.specs.Rows.{has, is_number, number_rule, last_rule, base_rule, bits_bad, bits_rule, base_read, words_row, bits_row, set_row, acknack_row, heartbeat_row, gap_row, info_ts_row, info_src_row, info_dst_row, row_of}
+use Rattle.rtps_submsg.specs.Grammar.{Row, ends, field, any, only_if}
+use Rattle.rtps_submsg.specs.Rows.{has, is_number, number_rule, last_rule, base_rule, bits_bad, bits_rule, words_row, bits_row, set_row, acknack_row, heartbeat_row, gap_row, info_ts_row, info_src_row, info_dst_row, row_of}
 use Rattle.rtps_submsg.specs.Sets.{words_of}
 use Rattle.rtps_submsg.specs.Data.{Head, sample_rule, offset_rule, head_row}
 use Rattle.rtps_submsg.specs.FieldSteps.{◌>>=◌, breaks, field_at, u16_at, u32_at, sequence_at, number_at, sample_number_at}

@@ -1,6 +1,5 @@
 -- What is written of a submessage spells it, whatever follows.
-use Rattle.std.proofs.Common.{◌≡◌, ℕ, ◌+◌, ◌-◌, ◌<◌, ◌≤◌, ◌^◌, Bool, true, false, List, [], ◌∷◌, ◌++◌, length, take, drop, Some, None, refl, sym, ap, subst, ◌∙◌, append_assoc, append-nil, arith}
-use Rattle.std.specs.Prelude.{if◌then◌else◌}
+use Rattle.std.proofs.Common.{◌≡◌, ℕ, ◌+◌, ◌<◌, Bool, true, false, List, [], ◌∷◌, ◌++◌, length, take, Some, None, refl, sym, ap, subst, ◌∙◌, append_assoc, arith}
 use Rattle.std.specs.Int.{w16, w32}
 use Rattle.std.proofs.lemmas.Bool.{ne_eqb}
 use Rattle.std.proofs.lemmas.List.{length-append, take_at, drop_at}
@@ -14,9 +13,9 @@ use Rattle.rtps_submsg.specs.declared.sub.DataSub.{DataSub}
 use Rattle.rtps_submsg.specs.declared.sub.Sub.{Sub}
 use Rattle.rtps_submsg.specs.declared.sub.Sub.TheVariants.{Pad, InfoTs, InfoDst, InfoSrc, Data, Heartbeat, AckNack, Gap, Other}
 use Rattle.rtps_submsg.specs.Grammar.{Spells}
-use Rattle.rtps_submsg.specs.Rows.{has, row_of, info_ts_row}
+use Rattle.rtps_submsg.specs.Rows.{has, row_of}
 use Rattle.rtps_submsg.specs.Data.{Head, head_row, form_of, payload_of, InlineSpells, DataSpells}
-use Rattle.rtps_submsg.specs.Headers.{Heads, has_both, extent, Framed, Frames}
+use Rattle.rtps_submsg.specs.Headers.{Heads, has_both, extent, Framed}
 use Rattle.rtps_submsg.specs.Subs.{BodySpells, SubSpells}
 use Rattle.rtps_submsg.specs.Writing.{set_text, data_text, heartbeat_text, acknack_text, gap_text, body_text, payload_text, id_of, flag, form_flag, own_flags, header_text, sub_text, IsKnown, HasText, IsPayloadOf, IsDataInRange, IsInRange, IsDataTyped, IsTyped}
 use Rattle.rtps_submsg.proofs.Text.{length_sub}

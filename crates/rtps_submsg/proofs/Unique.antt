@@ -14,7 +14,7 @@ use Rattle.rtps_submsg.specs.Grammar.{Row, Spells, Breaks}
 use Rattle.rtps_submsg.specs.Rows.{has, row_of}
 use Rattle.rtps_submsg.specs.Data.{Head, head_row, form_of, payload_of, InlineSpells, InlineBreaks, DataSpells, DataBreaks}
 use Rattle.rtps_submsg.proofs.Runs.{run, spells_run, breaks_run}
-use Rattle.rtps_submsg.specs.Headers.{Framed, Frames, HeadBreaks}
+use Rattle.rtps_submsg.specs.Headers.{Framed}
 use Rattle.rtps_submsg.specs.HeaderSteps.{framed_at}
 use Rattle.rtps_submsg.proofs.Headers.{frames_read, head_breaks_read}
 use Rattle.rtps_submsg.specs.OneReading.{SomeSub, SomeBreak, HasOneReading}
@@ -22,21 +22,21 @@ use Rattle.rtps_submsg.specs.Subs.{SpellsBy, BreaksBy, SubSpells, SubBreaks, Sam
 
 -- ---- a result is one thing
 
-ok_once : {A E : Type 0} (r : Result A E) (x y : A) → r ≡ Ok x → r ≡ Ok y → x ≡ y
+pub ok_once : {A E : Type 0} (r : Result A E) (x y : A) → r ≡ Ok x → r ≡ Ok y → x ≡ y
 ok_once r x y e f = cc
 
 err_once : {A E : Type 0} (r : Result A E) (x y : E) → r ≡ Err x → r ≡ Err y → x ≡ y
 err_once r x y e f = cc
 
-not_both : {A E : Type 0} (r : Result A E) (x : A) (y : E) → r ≡ Ok x → r ≡ Err y → ⊥
+pub not_both : {A E : Type 0} (r : Result A E) (x : A) (y : E) → r ≡ Ok x → r ≡ Err y → ⊥
 not_both r x y e f = cc
 
 -- ---- a row of fields
 
-row_once : {V : Type 0} (row : Row V) (body : List ℕ) (v w : V) → Spells row body v → Spells row body w → v ≡ w
+pub row_once : {V : Type 0} (row : Row V) (body : List ℕ) (v w : V) → Spells row body v → Spells row body w → v ≡ w
 row_once row body v w x y = ok_once (run row body) v w (spells_run row body v x) (spells_run row body w y)
 
-row_never : {V : Type 0} (row : Row V) (body : List ℕ) (v : V) (e : Broken) → Spells row body v → Breaks row body e → ⊥
+pub row_never : {V : Type 0} (row : Row V) (body : List ℕ) (v : V) (e : Broken) → Spells row body v → Breaks row body e → ⊥
 row_never row body v e x y = not_both (run row body) v e (spells_run row body v x) (breaks_run row body e y)
 
 row_breaks : {V : Type 0} (row : Row V) (body : List ℕ) (d e : Broken) → Breaks row body d → Breaks row body e → d ≡ e
@@ -107,7 +107,7 @@ body_breaks : (is_data : Bool) (f : Framed) (d e : Broken) → BreaksBy is_data 
 body_breaks true f d e x y = data_breaks (has f.flags 0x01) f.flags f.body d e x y
 body_breaks false f d e x y = row_breaks (row_of (has f.flags 0x01) f.flags f.id) f.body d e x y
 
-abbrev fault_of : ℕ → SubKind → SubFault
+abbrev pub fault_of : ℕ → SubKind → SubFault
 fault_of at kind = record { at = at; kind = kind }
 
 -- ---- submessages

@@ -1,5 +1,5 @@
 -- Reading the fields of a body from left to right, up to the first that breaks.
-use Rattle.std.specs.Prelude.{◌≡◌, ℕ, ◌-◌, ◌^◌, Bool, true, false, List, length, take, drop, Result, Ok, Err, nat_lt, nat_le, ◌==◌, ◌&&◌, bit_and, if◌then◌else◌}
+use Rattle.std.specs.Prelude.{◌≡◌, ℕ, ◌-◌, ◌^◌, Bool, List, length, take, drop, Result, Ok, Err, nat_lt, nat_le, ◌&&◌, if◌then◌else◌}
 use Rattle.std.specs.Int.{w16, w32}
 use Rattle.dur_base.specs.Fields.{number, sequence}
 use Rattle.rtps_submsg.specs.declared.field.Broken.{Broken}

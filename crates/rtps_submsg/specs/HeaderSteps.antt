@@ -1,5 +1,5 @@
 -- The steps that the reader of a header takes. They are proved to find what the grammar says.
-use Rattle.std.specs.Prelude.{◌≡◌, ℕ, Bool, List, length, take, drop, slice_index, Result, Ok, Err, nat_lt, if◌then◌else◌}
+use Rattle.std.specs.Prelude.{◌≡◌, ℕ, List, length, take, drop, slice_index, Result, Ok, Err, nat_lt, if◌then◌else◌}
 use Rattle.std.specs.Int.{w16}
 use Rattle.dur_base.specs.Fields.{number}
 use Rattle.rtps_submsg.specs.declared.reading.Frame.{Frame}

@@ -1,5 +1,5 @@
 -- The steps that the reader of a set takes. They are proved to find what the grammar says.
-use Rattle.std.specs.Prelude.{ℕ, ◌+◌, ◌-◌, ◌*◌, ◌/◌, ◌%◌, ◌^◌, Bool, List, [], ◌∷◌, length, take, drop, Result, Ok, Err, nat_lt, nat_le, ◌==◌, ◌&&◌, ◌||◌, if◌then◌else◌}
+use Rattle.std.specs.Prelude.{ℕ, ◌+◌, ◌*◌, ◌/◌, ◌%◌, ◌^◌, Bool, List, [], length, take, drop, Result, Ok, Err, nat_lt, nat_le, ◌==◌, ◌&&◌, ◌||◌, if◌then◌else◌}
 use Rattle.dur_base.specs.NumberSets.{NumberSet, set_of}
 use Rattle.rtps_submsg.specs.declared.field.Broken.{Broken}
 use Rattle.rtps_submsg.specs.declared.sub.SubKind.TheVariants.{Cut, BadSet}

@@ -1,5 +1,5 @@
 -- The words of a set of numbers, as they stand in a body (DDSI-RTPS 9.4.2.6).
-use Rattle.std.specs.Prelude.{ℕ, ◌+◌, ◌-◌, ◌*◌, ◌/◌, ◌%◌, ◌^◌, Bool, List, [], ◌∷◌, take, drop, nat_lt, nat_le, if◌then◌else◌}
+use Rattle.std.specs.Prelude.{ℕ, ◌-◌, ◌*◌, ◌%◌, ◌^◌, Bool, List, [], ◌∷◌, take, drop, nat_lt, nat_le, if◌then◌else◌}
 use Rattle.std.specs.Int.{w32}
 use Rattle.dur_base.specs.Fields.{number}
 
