@@ -12,38 +12,45 @@ the standard library is used.
 import pathlib
 import sys
 
-from inline_lists import datagrams
+sys.dont_write_bytecode = True
+
+from inline_lists import datagrams  # noqa: E402
 
 MODULE = """//! Generated: captured messages.
 use super::*;
 use std::test::*;
 
-const MESSAGES: [&[u8]; {count}] = [
+/// Whether all submessages are read, of which there are at most 64.
+fn is_read(bytes: &[u8]) -> bool {
+    let mut rest = bytes;
+    for _ in 0..64 {
+        if rest.is_empty() {
+            return true;
+        }
+        match read_sub(rest) {
+            Ok((_, len)) => rest = rest.split_at(len).1,
+            Err(_) => return false,
+        }
+    }
+    rest.is_empty()
+}
+"""
+
+PART = """
+const MESSAGES_{part}: [&[u8]; {count}] = [
 {rows}
 ];
 
-/// Whether all submessages are read, of which there are at most 64.
-fn is_read(bytes: &[u8]) -> bool {{
-    let mut rest = bytes;
-    for _ in 0..64 {{
-        if rest.is_empty() {{
-            return true;
-        }}
-        match read_sub(rest) {{
-            Ok((_, len)) => rest = rest.split_at(len).1,
-            Err(_) => return false,
-        }}
-    }}
-    rest.is_empty()
-}}
-
 #[test]
-fn captured_messages_are_read(rt: HostRuntime) {{
-    for bytes in MESSAGES {{
+fn captured_messages_{part}_are_read(rt: HostRuntime) {{
+    for bytes in &MESSAGES_{part} {{
         assert!(rt; is_read(bytes));
     }}
 }}
 """
+
+# A constant holds only so many octets.
+AT_ONCE = 100
 
 
 def main():
@@ -62,7 +69,10 @@ def main():
     for octets in rows:
         text = "".join(f"\\x{octet:02x}" for octet in octets)
         lines.append(f'    b"{text}",')
-    print(MODULE.format(count=len(rows), rows="\n".join(lines)), end="")
+    print(MODULE, end="")
+    for part, first in enumerate(range(0, len(lines), AT_ONCE)):
+        some = lines[first : first + AT_ONCE]
+        print(PART.format(part=part, count=len(some), rows="\n".join(some)), end="")
 
 
 if __name__ == "__main__":
