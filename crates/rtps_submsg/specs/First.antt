@@ -1,7 +1,8 @@
 -- A message of one DATA that fills it, by the places of its fields.
-use Rattle.std.specs.Prelude.{◌≡◌, ℕ, ◌+◌, ◌-◌, ◌%◌, ◌<◌, ◌≤◌, ◌^◌, ◌⊎◌, true, List, [], ◌∷◌, ◌++◌, length, drop, slice_index, slice_range}
+use Rattle.std.specs.Prelude.{◌≡◌, ℕ, ◌+◌, ◌-◌, ◌%◌, ◌<◌, ◌≤◌, ◌^◌, ◌⊎◌, true, Some, List, [], ◌∷◌, ◌++◌, length, drop, slice_index, slice_range}
 use Rattle.std.specs.Int.{w16}
 use Rattle.dur_base.specs.Fields.{number, sequence}
+use Rattle.rtps_submsg.specs.declared.sub.DataSub.{DataSub}
 
 unfoldable pub number_at : List ℕ → ℕ
 number_at bytes = sequence true (slice_range bytes 36 44)
@@ -56,3 +57,10 @@ pub record HasList (bytes : List ℕ) : Type 0 where
 
 abbrev pub HasForm : List ℕ → Type 0
 HasForm bytes = HasHeader bytes × HasKind bytes × HasNumber bytes × HasHash bytes × HasList bytes
+
+-- a DATA has the values that stand at these places
+pub record Tells (bytes : List ℕ) (d : DataSub) : Type 0 where
+  pub writer : d.writer ≡ slice_range bytes 32 36
+  pub number : d.number ≡ number_at bytes
+  pub key : d.inline.hash ≡ Some (key_at bytes)
+  pub payload : d.payload.now ≡ payload_at bytes

@@ -1,1 +1,14 @@
+pub mod Grammar
+pub mod Sets
+pub mod Rows
+pub mod Data
+pub mod Headers
+pub mod Subs
+pub mod OneReading
+pub mod Writing
 pub mod First
+pub mod HeaderSteps
+pub mod FieldSteps
+pub mod SetSteps
+pub mod RowSteps
+pub mod DataSteps

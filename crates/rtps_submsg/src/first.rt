@@ -1,9 +1,11 @@
 //! A message of one DATA that fills it, read by the places of its fields.
 
-ghost use Rattle.std.specs.Prelude.{◌≡◌, ◌≤◌, ◌<◌, ◌+◌, ◌++◌, ◌↔◌, length, drop, slice_range, slice_index, IsTrue, IsSome, IfSome};
-ghost use Rattle.rtps_submsg.specs.First.{HasHeader, HasKind, HasNumber, HasHash, HasList, HasForm, Fills, number_at, hash_len, writer_at, key_at, payload_at};
+ghost use Rattle.std.specs.Prelude.{◌≡◌, ◌≤◌, ◌<◌, ◌+◌, ◌++◌, ◌↔◌, length, drop, slice_range, slice_index, IsTrue, IsSome, IsSomeAnd, IfSome};
+ghost use Rattle.rtps_submsg.specs.First.{HasHeader, HasKind, HasNumber, HasHash, HasList, HasForm, Fills, number_at, hash_len, writer_at, key_at, payload_at, Tells};
 
-use dur_base::{EntityId, Guid, Key, Number, Prefix, sequence_of, u16_of};
+use crate::reading::read_sub;
+use crate::sub::{DataSub, Sub};
+use dur_base::{Guid, Key, Number, Prefix, sequence_of, u16_of};
 
 /// What a message of one DATA tells.
 #[derive(Drop)]
@@ -105,6 +107,20 @@ fn has_form(bytes: &[u8]) -> bool
     has_header(bytes) && has_kind(bytes) && has_number(bytes) && has_hash(bytes) && has_list(bytes)
 }
 
+/// The DATA behind the header.
+fn data_of<'a>(bytes: &'a [u8]) -> Option<DataSub<'a>>
+    requires { HasForm bytes.now }
+    ensures { IsSomeAnd result (λ d. Tells bytes.now d) }
+{
+    match read_sub(bytes.split_at(20).1) {
+        Ok((sub, _)) => match sub {
+            Sub::Data(data) => Some(data),
+            _ => None,
+        },
+        Err(_) => None,
+    }
+}
+
 /// The values of a message of one DATA, or None exactly where it is not of this form: a header of
 /// major version 2 (DDSI-RTPS 8.3.3), then one DATA (9.4.5.3) that fills the message, with flags 07,
 /// octetsToInlineQos 16, a readerId of zeros, a number from 1 to 2^63 - 2, a list of exactly a key
@@ -120,13 +136,14 @@ pub fn first_data<'a>(bytes: &'a [u8]) -> Option<FirstData<'a>>
     if !has_form(bytes) {
         return None;
     }
-    let number = Number::new(number_of(bytes))?;
-    let prefix = Prefix(octets(bytes, 8));
-    let entity = EntityId(octets(bytes, 32));
+    let Some(data) = data_of(bytes) else {
+        return None;
+    };
+    let key = data.inline.hash?;
     Some(FirstData {
-        writer: Guid::of(prefix, entity),
-        number,
-        key: Key(octets(bytes, 48)),
-        payload: bytes.split_at(52 + hash_len_of(bytes)).1,
+        writer: Guid::of(Prefix(octets(bytes, 8)), data.writer),
+        number: data.number,
+        key,
+        payload: data.payload,
     })
 }

@@ -1,0 +1,4 @@
+pub mod Next
+pub mod Loop
+pub mod OneReading
+pub mod Back

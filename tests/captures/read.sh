@@ -1,0 +1,35 @@
+#!/bin/sh
+# Runs a generated test module in a copy of a crate and what it stands on.
+#
+#     read.sh CRATE SCRIPT ARGUMENTS..
+#
+# SCRIPT is a Python script beside this one; it is given the folder of captures and ARGUMENTS, and writes the
+# module. CAPTURES names the folder. Skipped where there are no captures.
+set -eu
+
+here=$(cd "$(dirname "$0")" && pwd)
+root=$(cd "$here/../.." && pwd)
+captures=${CAPTURES:-$root/../shared/captures}
+crate=$1
+script=$2
+shift 2
+
+if ! ls "$captures"/*/capture.bin >/dev/null 2>&1; then
+    echo "$script: skipped, no captures in $captures"
+    exit 0
+fi
+
+copy=$(mktemp -d)
+trap 'rm -rf "$copy"' EXIT
+mkdir "$copy/crates"
+cp "$root/HANDLES" "$copy/"
+grep -E '^(dur_base|rtps_params|rtps_submsg):' "$root/crates.txt" >"$copy/crates.txt"
+for name in dur_base rtps_params rtps_submsg; do
+    mkdir "$copy/crates/$name"
+    for part in src specs proofs; do
+        cp -R "$root/crates/$name/$part" "$copy/crates/$name/"
+    done
+done
+python3 "$here/$script" "$captures" "$@" >"$copy/crates/$crate/src/tests.rt"
+cd "$copy/crates/$crate"
+rt try --test
