@@ -1,5 +1,5 @@
 -- A call on a disk in memory, from its steps.
-use Rattle.std.proofs.Common.{◌≡◌, ℕ, ◌≤◌, List, ◌∷◌, length, take, drop, true, false, Bool, refl, sym, ◌∙◌, ap, subst, arith, inl, inr, ⊎_elim, Ok, Err, Result, is_err}
+use Rattle.std.proofs.Common.{◌≡◌, ℕ, ◌≤◌, List, ◌∷◌, length, take, drop, true, false, refl, ◌∙◌, ap, subst, arith, inl, inr, ⊎_elim, Ok, Err, Result, is_err}
 use Rattle.dur_outside.specs.declared.change.Edit.{Edit}
 use Rattle.dur_outside.specs.declared.change.Edit.TheVariants.{Wrote, Shortened, Synced}
 use Rattle.dur_outside.specs.declared.change.Change.{Change}
@@ -78,7 +78,7 @@ has_cause set (Ok t) old new counts = record { later = counts.later; failed = tt
 has_cause set (Err e) old new counts = record {
   later = counts.later;
   failed = ⊎_elim
-    (λ p. let is : new.faults ≡ one_more old.faults = ap (λ (c : GivenCalls). c.faults) p.1 in omega (arith, is))
-    (λ p. let is : new.faults ≡ one_more old.faults = ap (λ (c : GivenCalls). c.faults) p.1 in omega (arith, is))
-    (counts.failure refl);
+      (λ p. let is : new.faults ≡ one_more old.faults = ap (λ (c : GivenCalls). c.faults) p.1 in omega (arith, is))
+      (λ p. let is : new.faults ≡ one_more old.faults = ap (λ (c : GivenCalls). c.faults) p.1 in omega (arith, is))
+      (counts.failure refl);
 }

@@ -1,7 +1,6 @@
 -- What a number picks is one of the images that a crash may leave.
-use Rattle.std.proofs.Common.{◌≡◌, ◌⊎◌, inl, inr, ⊎_elim, ℕ, ◌+◌, ◌-◌, ◌/◌, ◌%◌, ◌≤◌, ◌<◌, min, max, nat_le, if◌then◌else◌, true, false, Bool, List, [], ◌∷◌, ◌++◌, length, take, drop, refl, sym, ◌∙◌, ap, subst, arith, length-append, length-drop}
+use Rattle.std.proofs.Common.{◌≡◌, inr, ℕ, ◌+◌, ◌-◌, ◌/◌, ◌%◌, ◌≤◌, ◌<◌, nat_le, if◌then◌else◌, true, false, Bool, List, [], ◌∷◌, ◌++◌, length, take, drop, refl, sym, ◌∙◌, ap, subst, arith, length-drop}
 use Rattle.std.proofs.lemmas.List.{drop-drop, length-take, length-take-le, take-append-le, take-take, take_min}
-use Rattle.std.proofs.lemmas.Bool.{cases_lt}
 use Rattle.dur_outside.specs.declared.change.Edit.{Edit}
 use Rattle.dur_outside.specs.declared.change.Edit.TheVariants.{Wrote, Shortened, Synced}
 use Rattle.dur_outside.specs.declared.change.Change.{Change}
@@ -10,7 +9,7 @@ use Rattle.dur_outside.specs.declared.values.FileId.{FileId}
 use Rattle.dur_outside.specs.declared.values.FileId.TheVariants.{Zero, One}
 use Rattle.dur_outside.specs.World.{over, Torn, Cut}
 use Rattle.dur_outside.specs.Memory.{octets_before, ByEdit, MayHold}
-use Rattle.dur_outside.specs.Picked.{over_if_reached, tear, made_by, next_pick, edit_pick, pick_of}
+use Rattle.dur_outside.specs.Picked.{tear, next_pick, edit_pick, pick_of}
 use Rattle.dur_outside.proofs.Overs.{drop_over, length-over, torn_same}
 
 -- a part of the range is written

@@ -1,5 +1,5 @@
 -- How calls in memory change their world.
-use Rattle.std.proofs.Common.{◌≡◌, ◌⊎◌, inl, inr, ⊎_elim, ℕ, ◌+◌, ◌-◌, ◌≤◌, ◌<◌, List, [], ◌∷◌, ◌++◌, length, take, drop, refl, sym, ◌∙◌, ap, subst, arith, length-append, Ok, Err, Result, OnOk, OnErr, IfOk}
+use Rattle.std.proofs.Common.{◌≡◌, ◌⊎◌, inl, inr, ⊎_elim, ℕ, ◌-◌, ◌≤◌, ◌<◌, List, ◌∷◌, ◌++◌, length, take, drop, refl, sym, ◌∙◌, ap, subst, arith, length-append, Ok, Err, Result, OnOk, OnErr, IfOk}
 use Rattle.std.proofs.lemmas.List.{take_at, take_all, take-append-drop}
 use Rattle.dur_outside.specs.declared.change.Edit.{Edit}
 use Rattle.dur_outside.specs.declared.change.Edit.TheVariants.{Wrote, Shortened, Synced}

@@ -16,11 +16,12 @@ octets_before (Wrote at count old) x = take at x ++ (old ++ drop (at + count) x)
 octets_before (Shortened end tail) x = x ++ tail
 octets_before Synced x = x
 
+-- the image before that change
 abbrev pub image_before : Change → Image → Image
 image_before (Made file edit) x = put file (octets_before edit (content file x)) x
 image_before (Sent count) x = record x { written = take (length x.written - count) x.written }
 
--- what a crash may leave of a file that reads as x after that edit, from what M says of it before
+-- what a crash may leave of a file that reads as x after that edit, where before it what it may leave has M
 abbrev pub ByEdit : Edit → List ℕ → (List ℕ → Type 0) → List ℕ → Type 0
 ByEdit (Wrote at count old) x M c = (c ≡ x) ⊎ ((d : List ℕ) × M d × Torn at count d c)
 ByEdit (Shortened end tail) x M c = (c ≡ x) ⊎ ((d : List ℕ) × M d × Cut end d c)
@@ -35,15 +36,19 @@ MayHold (Made One edit ∷ past) Zero x c = MayHold past Zero x c
 MayHold (Made One edit ∷ past) One x c = ByEdit edit x (MayHold past One (octets_before edit x)) c
 MayHold (Sent count ∷ past) file x c = MayHold past file x c
 
+-- what a crash may leave of the image x after those changes: of each file one of its own, and all that was written out
 pub record IsImage (x : Image) (past : List Change) (c : Image) : Type 0 where
   pub zero : MayHold past Zero x.zero c.zero
   pub one : MayHold past One x.one c.one
   pub written : c.written ≡ x.written
 
+-- what a crash at some moment from t on might have left, where x stands after those changes
 abbrev pub Since : List Change → Image → ℕ → Image → Type 0
 Since [] x t c = IsImage x [] c
-Since (change ∷ past) x t c = IsImage x (change ∷ past) c ⊎ ((t ≤ length past) × Since past (image_before change x) t c)
+Since (change ∷ past) x t c = IsImage x (change ∷ past) c
+    ⊎ ((t ≤ length past) × Since past (image_before change x) t c)
 
+-- the world in which x stands after those changes: each change is a moment
 abbrev pub world_of : Image → List Change → World
 world_of x past = record { now = x; may = IsImage x past; moment = length past; since = Since past x }
 
@@ -65,6 +70,7 @@ octets_of One d = d.one
 abbrev pub image : List ℕ → GivenDisk → Image
 image written d = record { zero = d.zero; one = d.one; written = written }
 
+-- the world of a disk and of what was written out beside it
 abbrev pub disk_world : List ℕ → GivenDisk → World
 disk_world written d = world_of (image written d) d.past
 

@@ -1,6 +1,6 @@
 -- Every world in memory is sound.
-use Rattle.std.specs.Prelude.{◌≡◌, ◌⊎◌, ℕ, ◌≤◌, List, [], ◌∷◌, length, refl}
-use Rattle.std.proofs.Common.{inl, inr, ⊎_elim}
+use Rattle.std.specs.Prelude.{ℕ, ◌≤◌, List, [], ◌∷◌, length, refl}
+use Rattle.std.proofs.Common.{inl, ⊎_elim}
 use Rattle.std.proofs.Math.Nat.{not-suc-le_self}
 use Rattle.dur_outside.specs.declared.change.Edit.{Edit}
 use Rattle.dur_outside.specs.declared.change.Edit.TheVariants.{Wrote, Shortened, Synced}
@@ -8,8 +8,8 @@ use Rattle.dur_outside.specs.declared.change.Change.{Change}
 use Rattle.dur_outside.specs.declared.change.Change.TheVariants.{Made, Sent}
 use Rattle.dur_outside.specs.declared.values.FileId.{FileId}
 use Rattle.dur_outside.specs.declared.values.FileId.TheVariants.{Zero, One}
-use Rattle.dur_outside.specs.World.{Image, World, IsSound}
-use Rattle.dur_outside.specs.Memory.{octets_before, image_before, ByEdit, MayHold, IsImage, Since, world_of}
+use Rattle.dur_outside.specs.World.{Image, IsSound}
+use Rattle.dur_outside.specs.Memory.{octets_before, ByEdit, MayHold, IsImage, Since, world_of}
 
 pub by_edit : (edit : Edit) (x : List ℕ) (M : List ℕ → Type 0) → ByEdit edit x M x
 by_edit (Wrote at count old) x M = inl refl

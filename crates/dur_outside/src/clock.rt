@@ -9,7 +9,7 @@ use std::marker::Model;
 use std::time::{Clock as SystemClock, Duration};
 
 /// A clock that stands still.
-#[derive(Drop)]
+#[derive(Clone, Copy, Debug, Drop)]
 pub struct MemClock {
     moment: Ticks,
 }
@@ -20,6 +20,8 @@ impl Model for MemClock {
     ghost Value = { ℕ };
 
     ghost view = { λ c. c.moment };
+
+    ghost inverse = { λ moment. record { moment = moment } };
 }
 
 impl MemClock {
@@ -46,9 +48,19 @@ pub struct WallClock<C> {
     clock: C,
 }
 
+impl<C> Model for WallClock<C> {
+    ghost Value = { C };
+
+    ghost view = { λ w. w.clock };
+
+    ghost inverse = { λ clock. record { clock = clock } };
+}
+
 impl<C: SystemClock> WallClock<C> {
     /// The time as this handle of the system tells it.
-    pub fn new(clock: C) -> WallClock<C> {
+    pub fn new(clock: C) -> WallClock<C>
+        ensures { result ≡ clock }
+    {
         WallClock { clock }
     }
 }

@@ -38,7 +38,12 @@ impl Model for MemDisk {
     ghost Value = { GivenDisk };
 
     ghost view = { λ d. record {
-        zero = d.zero.items; one = d.one.items; past = reverse d.changes.items; left = d.left; calls = d.calls } };
+      zero = d.zero.items;
+      one = d.one.items;
+      past = reverse d.changes.items;
+      left = d.left;
+      calls = d.calls;
+    } };
 }
 
 fn pick_both(
@@ -48,9 +53,7 @@ fn pick_both(
     changes: &[Change],
     pick: u64,
 ) -> Result<(), AllocError>
-    ensures zero {
-        OnOk result (zero.new.items ≡ pick_of (reverse changes.now) Zero pick zero.old.items)
-    }
+    ensures zero { OnOk result (zero.new.items ≡ pick_of (reverse changes.now) Zero pick zero.old.items) }
     ensures one { OnOk result (one.new.items ≡ pick_of (reverse changes.now) One pick one.old.items) }
 {
     image_of(alloc, FileId::Zero, zero, changes, pick)?;
@@ -70,9 +73,7 @@ impl MemDisk {
     /// A disk of these files with nothing pending. `fails` has the numbers, from 0, of the calls that fail:
     /// all five calls are counted together.
     pub fn new(zero: Octets, one: Octets, fails: List<u64>) -> MemDisk
-        ensures {
-            result ≡ record { zero = zero; one = one; past = []; left = None; calls = no_calls fails }
-        }
+        ensures { result ≡ record { zero = zero; one = one; past = []; left = None; calls = no_calls fails } }
     {
         MemDisk {
             zero: zero.into_vec(),
@@ -94,19 +95,15 @@ impl MemDisk {
     /// what a crash may leave now. The same disk and number give the same files.
     ///
     /// Of each file the latest edit since its last sync takes its part of the number first. A write of n
-    /// octets leaves `pick / (n + 1) % (n + 1)` of them from `pick % (n + 1)` on, a cut that took n octets
-    /// leaves `pick % (n + 1)` of them, and the edit before takes `pick / (n + 1) / (n + 1)`. So 0 loses each
-    /// write, and makes each cut.
+    /// octets leaves `pick / (n + 1) % (n + 1)` of them, from `pick % (n + 1)` on, and a cut that took n octets
+    /// leaves `pick % (n + 1)` of these; the edit before goes on with `pick / (n + 1) / (n + 1)`. So 0 loses
+    /// each write and makes each cut. It needs a frame of the stack for each of these edits.
     #[tactic(auto, using(crate::proofs::Picks::picked_may))]
     pub fn crash(self, pick: u64) -> Result<MemDisk, OutOfMemory>
         ensures image { IfOk result (λ d. IsImage (image [] self) self.past (image [] d)) }
-        ensures picked {
-            IfOk result (λ d. (d.zero ≡ pick_of self.past Zero pick self.zero)
-                × (d.one ≡ pick_of self.past One pick self.one))
-        }
-        ensures clean {
-            IfOk result (λ d. d ≡ record d { past = []; left = None; calls = no_calls [] })
-        }
+        ensures picked { IfOk result (λ d. (d.zero ≡ pick_of self.past Zero pick self.zero)
+            × (d.one ≡ pick_of self.past One pick self.one)) }
+        ensures clean { IfOk result (λ d. d ≡ record d { past = []; left = None; calls = no_calls [] }) }
     {
         let MemDisk {
             mut zero,
@@ -141,12 +138,8 @@ impl MemDisk {
         ensures files { KeepsFiles self.old self.new }
         ensures left { self.new.left ≡ left_after changing self.old.left }
         ensures later { self.old.calls.faults ≤ self.new.calls.faults }
-        ensures goes_on {
-            OnOk result ((IsSet changing self.old → ⊥) × (self.new.calls ≡ self.old.calls))
-        }
-        ensures fails {
-            OnErr result (IsSet changing self.old × (self.new.calls ≡ after_fault self.old.calls))
-        }
+        ensures goes_on { OnOk result ((IsSet changing self.old → ⊥) × (self.new.calls ≡ self.old.calls)) }
+        ensures fails { OnErr result (IsSet changing self.old × (self.new.calls ≡ after_fault self.old.calls)) }
     {
         let set = self.is_set(changing);
         if changing {
@@ -160,11 +153,9 @@ impl MemDisk {
 
     fn make_write(&mut self, file: FileId, at: u64, bytes: &[u8]) -> Result<(), AllocError>
         requires { at ≤ length (octets_of file self.old) }
-        ensures done {
-            OnOk result (Edits file
-                (Wrote at (length bytes.now) (take (length bytes.now) (drop at (octets_of file self.old))))
-                (over at bytes.now (octets_of file self.old)) self.old self.new)
-        }
+        ensures done { OnOk result (Edits file
+            (Wrote at (length bytes.now) (take (length bytes.now) (drop at (octets_of file self.old))))
+            (over at bytes.now (octets_of file self.old)) self.old self.new) }
         ensures none { OnErr result (KeepsFiles self.old self.new) }
         ensures calls { KeepsCalls self.old self.new }
     {
@@ -176,10 +167,8 @@ impl MemDisk {
 
     fn make_cut(&mut self, file: FileId, end: u64) -> Result<(), AllocError>
         requires { end ≤ length (octets_of file self.old) }
-        ensures done {
-            OnOk result (Edits file (Shortened end (drop end (octets_of file self.old)))
-                (take end (octets_of file self.old)) self.old self.new)
-        }
+        ensures done { OnOk result (Edits file (Shortened end (drop end (octets_of file self.old)))
+            (take end (octets_of file self.old)) self.old self.new) }
         ensures none { OnErr result (KeepsFiles self.old self.new) }
         ensures calls { KeepsCalls self.old self.new }
     {
@@ -223,10 +212,8 @@ impl MemDisk {
 
     /// Takes the latest note back.
     pub(crate) fn forget_last(&mut self)
-        ensures {
-            (change : _) (past : _) → self.old.past ≡ change ∷ past
-                → self.new ≡ record self.old { past = past }
-        }
+        ensures { (change : _) (past : _) → self.old.past ≡ change ∷ past
+            → self.new ≡ record self.old { past = past } }
     {
         self.changes.pop();
     }
@@ -248,9 +235,7 @@ impl MemDisk {
     #[tactic(auto, using(crate::proofs::Counting::octets_same, crate::proofs::Counting::succeeded, crate::proofs::Counting::was_set))]
     pub(crate) fn read_told(&mut self, file: FileId, at: u64, into: &mut [u8]) -> Result<(), Failed>
         requires { at + length into.old ≤ length (octets_of file self.old) }
-        ensures bytes {
-            OnOk result (into.new ≡ take (length into.old) (drop at (octets_of file self.old)))
-        }
+        ensures bytes { OnOk result (into.new ≡ take (length into.old) (drop at (octets_of file self.old))) }
         ensures files { KeepsFiles self.old self.new }
         ensures left { self.new.left ≡ self.old.left }
         ensures counts { Counts (IsSet false self.old) (is_err result) self.old.calls self.new.calls }
@@ -265,11 +250,9 @@ impl MemDisk {
     #[tactic(auto, using(crate::proofs::Counting::wrote_after, crate::proofs::Counting::succeeded, crate::proofs::Counting::starved, crate::proofs::Counting::was_set, crate::proofs::Counting::files_after))]
     pub(crate) fn write_told(&mut self, file: FileId, at: u64, bytes: &[u8]) -> Result<(), Failed>
         requires { at ≤ length (octets_of file self.old) }
-        ensures done {
-            OnOk result (Edits file
-                (Wrote at (length bytes.now) (take (length bytes.now) (drop at (octets_of file self.old))))
-                (over at bytes.now (octets_of file self.old)) self.old self.new)
-        }
+        ensures done { OnOk result (Edits file
+            (Wrote at (length bytes.now) (take (length bytes.now) (drop at (octets_of file self.old))))
+            (over at bytes.now (octets_of file self.old)) self.old self.new) }
         ensures none { OnErr result (KeepsFiles self.old self.new) }
         ensures left { self.new.left ≡ left_after true self.old.left }
         ensures counts { Counts (IsSet true self.old) (is_err result) self.old.calls self.new.calls }
@@ -287,10 +270,8 @@ impl MemDisk {
     #[tactic(auto, using(crate::proofs::Counting::cut_after, crate::proofs::Counting::succeeded, crate::proofs::Counting::starved, crate::proofs::Counting::was_set, crate::proofs::Counting::files_after))]
     pub(crate) fn cut_told(&mut self, file: FileId, end: u64) -> Result<(), Failed>
         requires { end ≤ length (octets_of file self.old) }
-        ensures done {
-            OnOk result (Edits file (Shortened end (drop end (octets_of file self.old)))
-                (take end (octets_of file self.old)) self.old self.new)
-        }
+        ensures done { OnOk result (Edits file (Shortened end (drop end (octets_of file self.old)))
+            (take end (octets_of file self.old)) self.old self.new) }
         ensures none { OnErr result (KeepsFiles self.old self.new) }
         ensures left { self.new.left ≡ left_after true self.old.left }
         ensures counts { Counts (IsSet true self.old) (is_err result) self.old.calls self.new.calls }
@@ -351,10 +332,8 @@ impl Disk for MemDisk {
     #[tactic(auto, using(crate::proofs::Worlds::reads, crate::proofs::Worlds::octets_are, crate::proofs::Counting::has_cause))]
     fn read(&mut self, file: FileId, at: u64, into: &mut [u8]) -> Result<(), Failed>
         requires { Unit {0} → at + length into.old ≤ length (content file (image [] self.old)) }
-        ensures bytes {
-            Unit {0} → OnOk result
-                (into.new ≡ take (length into.old) (drop at (content file (image [] self.old))))
-        }
+        ensures bytes { Unit {0} → OnOk result
+            (into.new ≡ take (length into.old) (drop at (content file (image [] self.old)))) }
         ensures reads { Unit {0} → Reads (disk_world [] self.old) (disk_world [] self.new) }
         ensures cause { HasCause self.old.calls.faults self.new.calls.faults result }
 
@@ -368,9 +347,7 @@ impl Disk for MemDisk {
     #[tactic(auto, using(crate::proofs::Worlds::octets_are, crate::proofs::Counting::has_cause))]
     fn write_at(&mut self, file: FileId, at: u64, bytes: &[u8]) -> Result<(), Failed>
         requires { Unit {0} → at ≤ length (content file (image [] self.old)) }
-        ensures writes {
-            Unit {0} → Writes file at bytes.now result (disk_world [] self.old) (disk_world [] self.new)
-        }
+        ensures writes { Unit {0} → Writes file at bytes.now result (disk_world [] self.old) (disk_world [] self.new) }
         ensures cause { HasCause self.old.calls.faults self.new.calls.faults result }
 
         ensures none { OnErr result (KeepsFiles self.old self.new) }
@@ -383,9 +360,7 @@ impl Disk for MemDisk {
     #[tactic(auto, using(crate::proofs::Worlds::octets_are, crate::proofs::Counting::has_cause))]
     fn cut(&mut self, file: FileId, end: u64) -> Result<(), Failed>
         requires { Unit {0} → end ≤ length (content file (image [] self.old)) }
-        ensures cuts {
-            Unit {0} → Cuts file end result (disk_world [] self.old) (disk_world [] self.new)
-        }
+        ensures cuts { Unit {0} → Cuts file end result (disk_world [] self.old) (disk_world [] self.new) }
         ensures cause { HasCause self.old.calls.faults self.new.calls.faults result }
 
         ensures none { OnErr result (KeepsFiles self.old self.new) }

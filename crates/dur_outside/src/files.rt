@@ -1,7 +1,8 @@
-//! Two files of the system as a disk, and with a writer as a rig. Of both nothing is told but the faults.
+//! Two files of the system as a disk, and with a writer as a rig. Of both nothing is told but their faults.
 
 ghost use Rattle.std.specs.Prelude.{◌≡◌, ◌<◌, ◌≤◌, length, IfOk, is_err};
 ghost use Rattle.dur_outside.specs.Causes.{HasCause, faults_after};
+ghost use Rattle.dur_outside.specs.Given.{file_of, files_after};
 ghost use Rattle.dur_outside.specs.World.{nothing};
 
 use crate::{Disk, Failed, FileId, Machine, Rig, Sink, StdSink};
@@ -21,17 +22,17 @@ pub struct FileDisk {
 }
 
 impl Model for FileDisk {
-    ghost use Rattle.std.specs.Prelude.{ℕ};
+    ghost use Rattle.dur_outside.specs.Given.{GivenFiles};
 
-    ghost Value = { ℕ };
+    ghost Value = { GivenFiles };
 
-    ghost view = { λ d. d.faults };
+    ghost view = { λ d. record { zero = d.zero; one = d.one; faults = d.faults } };
 }
 
 impl FileDisk {
     /// A disk of these files, which are open for reading and writing, and not for appending.
     pub fn new(zero: File, one: File) -> FileDisk
-        ensures { result ≡ 0 }
+        ensures { result ≡ record { zero = zero; one = one; faults = 0 } }
     {
         FileDisk {
             zero,
@@ -40,7 +41,9 @@ impl FileDisk {
         }
     }
 
-    fn file(&self, file: FileId) -> &File {
+    fn file(&self, file: FileId) -> &File
+        ensures { result.now ≡ file_of file self.now }
+    {
         match file {
             FileId::Zero => &self.zero,
             FileId::One => &self.one,
@@ -74,45 +77,45 @@ impl Machine for FileDisk {
 }
 
 impl Disk for FileDisk {
-    ghost disk_faults = { λ d. d };
+    ghost disk_faults = { λ d. d.faults };
 
     ghost sound = { λ none. absurd none };
 
     fn len(&mut self, file: FileId) -> Result<u64, Failed>
-        ensures cause { HasCause self.old self.new result }
-        ensures count { self.new ≡ faults_after (is_err result) self.old }
+        ensures cause { HasCause self.old.faults self.new.faults result }
+        ensures count { self.new ≡ files_after (is_err result) self.old }
     {
         let length = length_of(self.file(file));
         counted(&mut self.faults, length)
     }
 
     fn read(&mut self, file: FileId, at: u64, into: &mut [u8]) -> Result<(), Failed>
-        ensures cause { HasCause self.old self.new result }
-        ensures count { self.new ≡ faults_after (is_err result) self.old }
+        ensures cause { HasCause self.old.faults self.new.faults result }
+        ensures count { self.new ≡ files_after (is_err result) self.old }
     {
         let done = self.file(file).read_exact_at(into, at);
         counted(&mut self.faults, done)
     }
 
     fn write_at(&mut self, file: FileId, at: u64, bytes: &[u8]) -> Result<(), Failed>
-        ensures cause { HasCause self.old self.new result }
-        ensures count { self.new ≡ faults_after (is_err result) self.old }
+        ensures cause { HasCause self.old.faults self.new.faults result }
+        ensures count { self.new ≡ files_after (is_err result) self.old }
     {
         let done = self.file(file).write_all_at(bytes, at);
         counted(&mut self.faults, done)
     }
 
     fn cut(&mut self, file: FileId, end: u64) -> Result<(), Failed>
-        ensures cause { HasCause self.old self.new result }
-        ensures count { self.new ≡ faults_after (is_err result) self.old }
+        ensures cause { HasCause self.old.faults self.new.faults result }
+        ensures count { self.new ≡ files_after (is_err result) self.old }
     {
         let done = self.file(file).set_len(end);
         counted(&mut self.faults, done)
     }
 
     fn sync(&mut self, file: FileId) -> Result<(), Failed>
-        ensures cause { HasCause self.old self.new result }
-        ensures count { self.new ≡ faults_after (is_err result) self.old }
+        ensures cause { HasCause self.old.faults self.new.faults result }
+        ensures count { self.new ≡ files_after (is_err result) self.old }
     {
         let done = self.file(file).sync_all();
         counted(&mut self.faults, done)
@@ -127,9 +130,9 @@ pub struct FileRig<W> {
 }
 
 impl<W> Model for FileRig<W> {
-    ghost use Rattle.dur_outside.specs.Given.{GivenFaults};
+    ghost use Rattle.dur_outside.specs.Given.{GivenFileRig};
 
-    ghost Value = { GivenFaults };
+    ghost Value = { GivenFileRig };
 
     ghost view = { λ r. record { disk = r.disk; sink = r.sink } };
 }
@@ -150,51 +153,41 @@ impl<W: Write> Machine for FileRig<W> {
 }
 
 impl<W: Write> Disk for FileRig<W> {
-    ghost disk_faults = { λ r. r.disk };
+    ghost disk_faults = { λ r. r.disk.faults };
 
     ghost sound = { λ none. absurd none };
 
     fn len(&mut self, file: FileId) -> Result<u64, Failed>
-        ensures cause { HasCause self.old.disk self.new.disk result }
-        ensures count {
-            self.new ≡ record self.old { disk = faults_after (is_err result) self.old.disk }
-        }
+        ensures cause { HasCause self.old.disk.faults self.new.disk.faults result }
+        ensures count { self.new ≡ record self.old { disk = files_after (is_err result) self.old.disk } }
     {
         self.disk.len(file)
     }
 
     fn read(&mut self, file: FileId, at: u64, into: &mut [u8]) -> Result<(), Failed>
-        ensures cause { HasCause self.old.disk self.new.disk result }
-        ensures count {
-            self.new ≡ record self.old { disk = faults_after (is_err result) self.old.disk }
-        }
+        ensures cause { HasCause self.old.disk.faults self.new.disk.faults result }
+        ensures count { self.new ≡ record self.old { disk = files_after (is_err result) self.old.disk } }
     {
         self.disk.read(file, at, into)
     }
 
     fn write_at(&mut self, file: FileId, at: u64, bytes: &[u8]) -> Result<(), Failed>
-        ensures cause { HasCause self.old.disk self.new.disk result }
-        ensures count {
-            self.new ≡ record self.old { disk = faults_after (is_err result) self.old.disk }
-        }
+        ensures cause { HasCause self.old.disk.faults self.new.disk.faults result }
+        ensures count { self.new ≡ record self.old { disk = files_after (is_err result) self.old.disk } }
     {
         self.disk.write_at(file, at, bytes)
     }
 
     fn cut(&mut self, file: FileId, end: u64) -> Result<(), Failed>
-        ensures cause { HasCause self.old.disk self.new.disk result }
-        ensures count {
-            self.new ≡ record self.old { disk = faults_after (is_err result) self.old.disk }
-        }
+        ensures cause { HasCause self.old.disk.faults self.new.disk.faults result }
+        ensures count { self.new ≡ record self.old { disk = files_after (is_err result) self.old.disk } }
     {
         self.disk.cut(file, end)
     }
 
     fn sync(&mut self, file: FileId) -> Result<(), Failed>
-        ensures cause { HasCause self.old.disk self.new.disk result }
-        ensures count {
-            self.new ≡ record self.old { disk = faults_after (is_err result) self.old.disk }
-        }
+        ensures cause { HasCause self.old.disk.faults self.new.disk.faults result }
+        ensures count { self.new ≡ record self.old { disk = files_after (is_err result) self.old.disk } }
     {
         self.disk.sync(file)
     }
@@ -207,9 +200,7 @@ impl<W: Write> Sink for FileRig<W> {
         ensures least { IfOk result (λ n. 0 < n) }
         ensures most { IfOk result (λ n. n ≤ length piece.now) }
         ensures cause { HasCause self.old.sink self.new.sink result }
-        ensures count {
-            self.new ≡ record self.old { sink = faults_after (is_err result) self.old.sink }
-        }
+        ensures count { self.new ≡ record self.old { sink = faults_after (is_err result) self.old.sink } }
     {
         self.sink.write(piece)
     }

@@ -109,14 +109,10 @@ impl Link for MemLink {
     fn receive(&mut self, into: &mut [u8]) -> Result<Option<usize>, Failed>
         requires { 65507 ≤ length into.old }
         ensures bound { IfOk result (λ got. IfSome got (λ n. n ≤ 65507)) }
-        ensures heard {
-            Unit {0} → IfOk result (λ got. heard_of self.new.given self.new.answers
-                ≡ heard_of self.old.given self.old.answers ++ option_map (λ n. take n into.new) got ∷ [])
-        }
-        ensures unheard {
-            Unit {0} → OnErr result (heard_of self.new.given self.new.answers
-                ≡ heard_of self.old.given self.old.answers)
-        }
+        ensures heard { Unit {0} → IfOk result (λ got. heard_of self.new.given self.new.answers
+            ≡ heard_of self.old.given self.old.answers ++ option_map (λ n. take n into.new) got ∷ []) }
+        ensures unheard { Unit {0} → OnErr result (heard_of self.new.given self.new.answers
+            ≡ heard_of self.old.given self.old.answers) }
         ensures unsent { Unit {0} → self.new.sent ≡ self.old.sent }
         ensures cause { HasCause self.old.calls.faults self.new.calls.faults result }
 
@@ -138,10 +134,8 @@ impl Link for MemLink {
     fn send(&mut self, bytes: &[u8]) -> Result<(), Failed>
         ensures sent { Unit {0} → OnOk result (self.new.sent ≡ self.old.sent ++ bytes.now ∷ []) }
         ensures unsent { Unit {0} → OnErr result (self.new.sent ≡ self.old.sent) }
-        ensures unheard {
-            Unit {0} → heard_of self.new.given self.new.answers
-                ≡ heard_of self.old.given self.old.answers
-        }
+        ensures unheard { Unit {0} → heard_of self.new.given self.new.answers
+            ≡ heard_of self.old.given self.old.answers }
         ensures cause { HasCause self.old.calls.faults self.new.calls.faults result }
 
         ensures given { (self.new.given ≡ self.old.given) × (self.new.answers ≡ self.old.answers) }

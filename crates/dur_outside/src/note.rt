@@ -41,13 +41,9 @@ pub(crate) fn note_write(
 ) -> Result<(), AllocError>
     requires { at ≤ length octets.old.items }
     ensures done { OnOk result (octets.new.items ≡ over at bytes.now octets.old.items) }
-    ensures noted {
-        OnOk result (reverse changes.new.items ≡ Made file (Wrote at (length bytes.now)
-            (take (length bytes.now) (drop at octets.old.items))) ∷ reverse changes.old.items)
-    }
-    ensures none {
-        OnErr result ((octets.new.items ≡ octets.old.items) × (changes.new.items ≡ changes.old.items))
-    }
+    ensures noted { OnOk result (reverse changes.new.items ≡ Made file (Wrote at (length bytes.now)
+        (take (length bytes.now) (drop at octets.old.items))) ∷ reverse changes.old.items) }
+    ensures none { OnErr result ((octets.new.items ≡ octets.old.items) × (changes.new.items ≡ changes.old.items)) }
 {
     let alloc = *octets.allocator();
     let gone = front_of(alloc, octets.split_at(at as usize).1, bytes.len())?;
@@ -72,13 +68,9 @@ pub(crate) fn note_cut(
 ) -> Result<(), AllocError>
     requires { end ≤ length octets.old.items }
     ensures done { OnOk result (octets.new.items ≡ take end octets.old.items) }
-    ensures noted {
-        OnOk result (reverse changes.new.items
-            ≡ Made file (Shortened end (drop end octets.old.items)) ∷ reverse changes.old.items)
-    }
-    ensures none {
-        OnErr result ((octets.new.items ≡ octets.old.items) × (changes.new.items ≡ changes.old.items))
-    }
+    ensures noted { OnOk result (reverse changes.new.items
+        ≡ Made file (Shortened end (drop end octets.old.items)) ∷ reverse changes.old.items) }
+    ensures none { OnErr result ((octets.new.items ≡ octets.old.items) × (changes.new.items ≡ changes.old.items)) }
 {
     let alloc = *octets.allocator();
     let gone = Octets::of(octets.split_at(end as usize).1.to_vec(alloc)?);

@@ -1,5 +1,5 @@
-//! Which files a number picks of those that a crash may leave: the changes are undone from the latest on, and of
-//! each undone edit some part is made again.
+//! Which octets a number picks of those that a crash may leave in a file: its edits are undone from the latest
+//! on, and then of each some part is made again.
 
 ghost use Rattle.std.specs.Prelude.{◌≡◌, ◌<◌, ◌≤◌, ◌++◌, ◌∷◌, ◌+◌, ◌/◌, ◌%◌, ℕ, List, length, take, drop, reverse, IfOk, OnOk, MatchOption, IsTrue, ◌↔◌};
 ghost use Rattle.dur_outside.specs.Memory.{octets_before};
@@ -72,7 +72,10 @@ fn tear_by(
 
 // The edit, where the change is of that file.
 fn edit_of(change: &Change, file: FileId) -> Option<&Edit>
-    ensures { MatchOption result ((past : _) (pick : _) (x : _) → pick_of (change.now ∷ past) file pick x ≡ pick_of past file pick x) (λ edit. change.now ≡ Made file edit.now) }
+    ensures { MatchOption result
+        ((past : _) (pick : _) (x : _)
+        → pick_of (change.now ∷ past) file pick x ≡ pick_of past file pick x)
+        (λ edit. change.now ≡ Made file edit.now) }
 {
     match (change, file) {
         (Change::Made(FileId::Zero, edit), FileId::Zero) => Some(edit),
@@ -107,7 +110,8 @@ fn leave(
     pick: u64,
 ) -> Result<(), AllocError>
     requires { edit.now ≡ Synced → ⊥ }
-    ensures { OnOk result ((x : _) → made.now ≡ made_by edit.now x → octets.new.items ≡ edit_pick edit.now pick x octets.old.items) }
+    ensures { OnOk result ((x : _) → made.now ≡ made_by edit.now x
+        → octets.new.items ≡ edit_pick edit.now pick x octets.old.items) }
 {
     match edit {
         Edit::Wrote { at, .. } => tear_by(alloc, octets, *at, made, pick),
@@ -122,7 +126,8 @@ fn leave(
 
 // Without the changes at the end that are not of that file: the recursion below is one step for each that is.
 fn up_to_own(changes: &[Change], file: FileId) -> &[Change]
-    ensures same { (pick : _) (x : _) → pick_of (reverse changes.now) file pick x ≡ pick_of (reverse result.now) file pick x }
+    ensures same { (pick : _) (x : _) → pick_of (reverse changes.now) file pick x
+        ≡ pick_of (reverse result.now) file pick x }
     ensures shorter { length result.now ≤ length changes.now }
 {
     let mut own = changes;

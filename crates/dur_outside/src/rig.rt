@@ -58,108 +58,78 @@ impl Disk for MemRig {
 
     #[tactic(auto, using(crate::proofs::Worlds::reads, crate::proofs::Worlds::octets_are, crate::proofs::Counting::has_cause))]
     fn len(&mut self, file: FileId) -> Result<u64, Failed>
-        ensures length {
-            Unit {0} → IfOk result
-                (λ n. n ≡ length (content file (image self.old.sink.written self.old.disk)))
-        }
-        ensures reads {
-            Unit {0} → Reads
-                (disk_world self.old.sink.written self.old.disk)
-                (disk_world self.new.sink.written self.new.disk)
-        }
+        ensures length { Unit {0} → IfOk result
+            (λ n. n ≡ length (content file (image self.old.sink.written self.old.disk))) }
+        ensures reads { Unit {0} → Reads
+            (disk_world self.old.sink.written self.old.disk)
+            (disk_world self.new.sink.written self.new.disk) }
         ensures cause { HasCause self.old.disk.calls.faults self.new.disk.calls.faults result }
         ensures files { KeepsFiles self.old.disk self.new.disk }
         ensures sink { self.new.sink ≡ self.old.sink }
         ensures left { self.new.disk.left ≡ self.old.disk.left }
-        ensures counts {
-            Counts (IsSet false self.old.disk) (is_err result) self.old.disk.calls self.new.disk.calls
-        }
+        ensures counts { Counts (IsSet false self.old.disk) (is_err result) self.old.disk.calls self.new.disk.calls }
     {
         self.disk.len_told(file)
     }
 
     #[tactic(auto, using(crate::proofs::Worlds::reads, crate::proofs::Worlds::octets_are, crate::proofs::Counting::has_cause))]
     fn read(&mut self, file: FileId, at: u64, into: &mut [u8]) -> Result<(), Failed>
-        requires {
-            Unit {0} → at + length into.old
-                ≤ length (content file (image self.old.sink.written self.old.disk))
-        }
-        ensures bytes {
-            Unit {0} → OnOk result (into.new ≡ take (length into.old)
-                (drop at (content file (image self.old.sink.written self.old.disk))))
-        }
-        ensures reads {
-            Unit {0} → Reads
-                (disk_world self.old.sink.written self.old.disk)
-                (disk_world self.new.sink.written self.new.disk)
-        }
+        requires { Unit {0} → at + length into.old
+            ≤ length (content file (image self.old.sink.written self.old.disk)) }
+        ensures bytes { Unit {0} → OnOk result (into.new ≡ take (length into.old)
+            (drop at (content file (image self.old.sink.written self.old.disk)))) }
+        ensures reads { Unit {0} → Reads
+            (disk_world self.old.sink.written self.old.disk)
+            (disk_world self.new.sink.written self.new.disk) }
         ensures cause { HasCause self.old.disk.calls.faults self.new.disk.calls.faults result }
         ensures files { KeepsFiles self.old.disk self.new.disk }
         ensures sink { self.new.sink ≡ self.old.sink }
         ensures left { self.new.disk.left ≡ self.old.disk.left }
-        ensures counts {
-            Counts (IsSet false self.old.disk) (is_err result) self.old.disk.calls self.new.disk.calls
-        }
+        ensures counts { Counts (IsSet false self.old.disk) (is_err result) self.old.disk.calls self.new.disk.calls }
     {
         self.disk.read_told(file, at, into)
     }
 
     #[tactic(auto, using(crate::proofs::Worlds::octets_are, crate::proofs::Counting::has_cause))]
     fn write_at(&mut self, file: FileId, at: u64, bytes: &[u8]) -> Result<(), Failed>
-        requires {
-            Unit {0} → at ≤ length (content file (image self.old.sink.written self.old.disk))
-        }
-        ensures writes {
-            Unit {0} → Writes file at bytes.now result
-                (disk_world self.old.sink.written self.old.disk)
-                (disk_world self.new.sink.written self.new.disk)
-        }
+        requires { Unit {0} → at ≤ length (content file (image self.old.sink.written self.old.disk)) }
+        ensures writes { Unit {0} → Writes file at bytes.now result
+            (disk_world self.old.sink.written self.old.disk)
+            (disk_world self.new.sink.written self.new.disk) }
         ensures cause { HasCause self.old.disk.calls.faults self.new.disk.calls.faults result }
         ensures none { OnErr result (KeepsFiles self.old.disk self.new.disk) }
         ensures sink { self.new.sink ≡ self.old.sink }
         ensures left { self.new.disk.left ≡ left_after true self.old.disk.left }
-        ensures counts {
-            Counts (IsSet true self.old.disk) (is_err result) self.old.disk.calls self.new.disk.calls
-        }
+        ensures counts { Counts (IsSet true self.old.disk) (is_err result) self.old.disk.calls self.new.disk.calls }
     {
         self.disk.write_told(file, at, bytes)
     }
 
     #[tactic(auto, using(crate::proofs::Worlds::octets_are, crate::proofs::Counting::has_cause))]
     fn cut(&mut self, file: FileId, end: u64) -> Result<(), Failed>
-        requires {
-            Unit {0} → end ≤ length (content file (image self.old.sink.written self.old.disk))
-        }
-        ensures cuts {
-            Unit {0} → Cuts file end result
-                (disk_world self.old.sink.written self.old.disk)
-                (disk_world self.new.sink.written self.new.disk)
-        }
+        requires { Unit {0} → end ≤ length (content file (image self.old.sink.written self.old.disk)) }
+        ensures cuts { Unit {0} → Cuts file end result
+            (disk_world self.old.sink.written self.old.disk)
+            (disk_world self.new.sink.written self.new.disk) }
         ensures cause { HasCause self.old.disk.calls.faults self.new.disk.calls.faults result }
         ensures none { OnErr result (KeepsFiles self.old.disk self.new.disk) }
         ensures sink { self.new.sink ≡ self.old.sink }
         ensures left { self.new.disk.left ≡ left_after true self.old.disk.left }
-        ensures counts {
-            Counts (IsSet true self.old.disk) (is_err result) self.old.disk.calls self.new.disk.calls
-        }
+        ensures counts { Counts (IsSet true self.old.disk) (is_err result) self.old.disk.calls self.new.disk.calls }
     {
         self.disk.cut_told(file, end)
     }
 
     #[tactic(auto, using(crate::proofs::Counting::has_cause))]
     fn sync(&mut self, file: FileId) -> Result<(), Failed>
-        ensures syncs {
-            Unit {0} → Syncs file result
-                (disk_world self.old.sink.written self.old.disk)
-                (disk_world self.new.sink.written self.new.disk)
-        }
+        ensures syncs { Unit {0} → Syncs file result
+            (disk_world self.old.sink.written self.old.disk)
+            (disk_world self.new.sink.written self.new.disk) }
         ensures cause { HasCause self.old.disk.calls.faults self.new.disk.calls.faults result }
         ensures none { OnErr result (KeepsFiles self.old.disk self.new.disk) }
         ensures sink { self.new.sink ≡ self.old.sink }
         ensures left { self.new.disk.left ≡ left_after true self.old.disk.left }
-        ensures counts {
-            Counts (IsSet true self.old.disk) (is_err result) self.old.disk.calls self.new.disk.calls
-        }
+        ensures counts { Counts (IsSet true self.old.disk) (is_err result) self.old.disk.calls self.new.disk.calls }
     {
         self.disk.sync_told(file)
     }
@@ -174,24 +144,18 @@ impl Sink for MemRig {
         requires { 0 < length piece.now }
         ensures least { IfOk result (λ n. 0 < n) }
         ensures most { IfOk result (λ n. n ≤ length piece.now) }
-        ensures sends {
-            Unit {0} → Sends piece.now result
-                (disk_world self.old.sink.written self.old.disk)
-                (disk_world self.new.sink.written self.new.disk)
-        }
+        ensures sends { Unit {0} → Sends piece.now result
+            (disk_world self.old.sink.written self.old.disk)
+            (disk_world self.new.sink.written self.new.disk) }
         ensures cause { HasCause self.old.sink.calls.faults self.new.sink.calls.faults result }
 
         ensures whole { IfOk result (λ n. n ≡ length piece.now) }
         ensures done { OnOk result (self.new.sink.written ≡ self.old.sink.written ++ piece.now) }
         ensures none { OnErr result (self.new.sink.written ≡ self.old.sink.written) }
-        ensures noted {
-            OnOk result (self.new.disk
-                ≡ record self.old.disk { past = Sent (length piece.now) ∷ self.old.disk.past })
-        }
+        ensures noted { OnOk result (self.new.disk
+            ≡ record self.old.disk { past = Sent (length piece.now) ∷ self.old.disk.past }) }
         ensures unnoted { OnErr result (self.new.disk ≡ self.old.disk) }
-        ensures counts {
-            Counts (IsListed self.old.sink.calls) (is_err result) self.old.sink.calls self.new.sink.calls
-        }
+        ensures counts { Counts (IsListed self.old.sink.calls) (is_err result) self.old.sink.calls self.new.sink.calls }
     {
         if self.disk.note_sent(piece.len() as u64).is_err() {
             return Err(self.sink.refuse());

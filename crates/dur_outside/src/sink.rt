@@ -71,12 +71,8 @@ fn append_noted(
     piece: &[u8],
 ) -> Result<(), OutOfMemory>
     ensures written { OnOk result (written.new ≡ written.old ++ piece.now) }
-    ensures noted {
-        OnOk result (reverse changes.new.items ≡ Sent (length piece.now) ∷ reverse changes.old.items)
-    }
-    ensures none {
-        OnErr result ((written.new ≡ written.old) × (changes.new.items ≡ changes.old.items))
-    }
+    ensures noted { OnOk result (reverse changes.new.items ≡ Sent (length piece.now) ∷ reverse changes.old.items) }
+    ensures none { OnErr result ((written.new ≡ written.old) × (changes.new.items ≡ changes.old.items)) }
 {
     if changes.push(Change::Sent(piece.len() as u64)).is_err() {
         return Err(OutOfMemory);
@@ -102,21 +98,15 @@ impl Sink for MemSink {
         requires { 0 < length piece.now }
         ensures least { IfOk result (λ n. 0 < n) }
         ensures most { IfOk result (λ n. n ≤ length piece.now) }
-        ensures sends {
-            Unit {0} → Sends piece.now result
-                (world_of (record { zero = []; one = []; written = self.old.written }) self.old.past)
-                (world_of (record { zero = []; one = []; written = self.new.written }) self.new.past)
-        }
+        ensures sends { Unit {0} → Sends piece.now result
+            (world_of (record { zero = []; one = []; written = self.old.written }) self.old.past)
+            (world_of (record { zero = []; one = []; written = self.new.written }) self.new.past) }
         ensures cause { HasCause self.old.calls.faults self.new.calls.faults result }
 
         ensures whole { IfOk result (λ n. n ≡ length piece.now) }
-        ensures done {
-            OnOk result ((self.new.written ≡ self.old.written ++ piece.now)
-                × (self.new.past ≡ Sent (length piece.now) ∷ self.old.past))
-        }
-        ensures none {
-            OnErr result ((self.new.written ≡ self.old.written) × (self.new.past ≡ self.old.past))
-        }
+        ensures done { OnOk result ((self.new.written ≡ self.old.written ++ piece.now)
+            × (self.new.past ≡ Sent (length piece.now) ∷ self.old.past)) }
+        ensures none { OnErr result ((self.new.written ≡ self.old.written) × (self.new.past ≡ self.old.past)) }
         ensures counts { Counts (IsListed self.old.calls) (is_err result) self.old.calls self.new.calls }
     {
         if self.calls.is_listed() {

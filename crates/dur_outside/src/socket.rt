@@ -9,7 +9,8 @@ use std::io::ErrorKind;
 use std::marker::Model;
 use std::net::{SocketAddr, UdpSocket};
 
-/// A UDP socket. It sends to the peer of the last datagram that came.
+/// A UDP socket. It sends to the peer of the last datagram that came. Of a datagram that is longer than the
+/// longest over IPv4, as IPv6 allows, it hears the front.
 #[derive(Drop)]
 pub struct UdpLink {
     socket: UdpSocket,

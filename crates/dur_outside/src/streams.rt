@@ -200,9 +200,7 @@ impl<W: Write> Sink for OutputRig<W> {
         ensures least { IfOk result (λ n. 0 < n) }
         ensures most { IfOk result (λ n. n ≤ length piece.now) }
         ensures cause { HasCause self.old.sink self.new.sink result }
-        ensures count {
-            self.new ≡ record self.old { sink = faults_after (is_err result) self.old.sink }
-        }
+        ensures count { self.new ≡ record self.old { sink = faults_after (is_err result) self.old.sink } }
     {
         self.sink.write(piece)
     }

@@ -22,8 +22,8 @@ pub trait Source {
     ghost faults: { Self → ℕ };
 
     /// Reads some octets to the front of `into`, which is not empty, and answers how many. 0 is the end
-    /// of input: where the content is told, it comes exactly where nothing is left. After `Failed` what
-    /// is left is as it was.
+    /// of input: where the content is told, it comes exactly where nothing is left. `Failed` comes only
+    /// where the count of faults rose in this call, and then what is left is as it was.
     fn read(&mut self, into: &mut [u8]) -> Result<usize, Failed>
         requires { 0 < length into.old }
         ensures bound { ReadsAtMost result into.new }
@@ -47,8 +47,9 @@ pub trait Sink: Machine {
     ghost sink_faults: { Self → ℕ };
 
     /// Appends a front of `piece`, which is not empty, and answers how many octets went out, at least
-    /// one: a sink that takes nothing fails. After `Failed` what was written out is as it was. No file
-    /// changes.
+    /// one: a sink that takes nothing counts a fault. `Failed` comes only where the count of faults rose
+    /// in this call, and then what was written out is as it was. What a crash may leave of the files
+    /// stays.
     fn write(&mut self, piece: &[u8]) -> Result<usize, Failed>
         requires { 0 < length piece.now }
         ensures least { IfOk result (λ n. 0 < n) }
@@ -57,7 +58,10 @@ pub trait Sink: Machine {
         ensures cause { HasCause (sink_faults self.old) (sink_faults self.new) result };
 }
 
-/// Two files, which nobody else writes. Places and lengths are in octets from a file's begin.
+/// Two files, which nobody else writes. Places are counted in octets from a file's start.
+///
+/// Each call answers `Failed` only where the count of faults rose in that call. A call on one file leaves the
+/// other, and what was written out, as they are.
 ///
 /// Between two syncs of a file each written range, and everything past the old end, may hold any octets
 /// after a crash, and the length may be any between the old and the new one. Other octets stay, and so
@@ -66,33 +70,26 @@ pub trait Disk: Machine {
     /// How many calls failed.
     ghost disk_faults: { Self → ℕ };
 
-    /// The length of that file.
+    /// Answers the length of that file.
     fn len(&mut self, file: FileId) -> Result<u64, Failed>
-        ensures length {
-            Self.tells → IfOk result (λ n. n ≡ length (content file (Self.world self.old).now))
-        }
+        ensures length { Self.tells → IfOk result (λ n. n ≡ length (content file (Self.world self.old).now)) }
         ensures reads { Self.tells → Reads (Self.world self.old) (Self.world self.new) }
         ensures cause { HasCause (disk_faults self.old) (disk_faults self.new) result };
 
-    /// Fills `into` from that place on. The file reaches as far.
+    /// Fills `into` with the octets from that place on, all of which stand within the file. After `Failed`
+    /// `into` may hold anything.
     fn read(&mut self, file: FileId, at: u64, into: &mut [u8]) -> Result<(), Failed>
-        requires {
-            Self.tells → at + length into.old ≤ length (content file (Self.world self.old).now)
-        }
-        ensures bytes {
-            Self.tells → OnOk result
-                (into.new ≡ take (length into.old) (drop at (content file (Self.world self.old).now)))
-        }
+        requires { Self.tells → at + length into.old ≤ length (content file (Self.world self.old).now) }
+        ensures bytes { Self.tells → OnOk result
+            (into.new ≡ take (length into.old) (drop at (content file (Self.world self.old).now))) }
         ensures reads { Self.tells → Reads (Self.world self.old) (Self.world self.new) }
         ensures cause { HasCause (disk_faults self.old) (disk_faults self.new) result };
 
-    /// Writes these octets at a place within the file or at its end. After `Failed` any part of the
-    /// range may have been written.
+    /// Writes these octets at a place within the file or at its end, over what stands there. After
+    /// `Failed` any part of the range may have been written.
     fn write_at(&mut self, file: FileId, at: u64, bytes: &[u8]) -> Result<(), Failed>
         requires { Self.tells → at ≤ length (content file (Self.world self.old).now) }
-        ensures writes {
-            Self.tells → Writes file at bytes.now result (Self.world self.old) (Self.world self.new)
-        }
+        ensures writes { Self.tells → Writes file at bytes.now result (Self.world self.old) (Self.world self.new) }
         ensures cause { HasCause (disk_faults self.old) (disk_faults self.new) result };
 
     /// Cuts the file off at a place within it or at its end. After `Failed` it may end anywhere from
@@ -102,7 +99,7 @@ pub trait Disk: Machine {
         ensures cuts { Self.tells → Cuts file end result (Self.world self.old) (Self.world self.new) }
         ensures cause { HasCause (disk_faults self.old) (disk_faults self.new) result };
 
-    /// What was changed in that file outlasts a crash, but after `Failed` it may not.
+    /// Makes what was changed in that file outlast a crash. After `Failed` it may not.
     fn sync(&mut self, file: FileId) -> Result<(), Failed>
         ensures syncs { Self.tells → Syncs file result (Self.world self.old) (Self.world self.new) }
         ensures cause { HasCause (disk_faults self.old) (disk_faults self.new) result };
@@ -115,7 +112,7 @@ pub trait Disk: Machine {
 /// out by then.
 pub trait Rig: Disk + Sink {}
 
-/// The most octets of a datagram over UDP.
+/// The most octets of a datagram over UDP and IPv4.
 pub const LONGEST_DATAGRAM: usize = 65_507;
 
 /// Where datagrams come from and go to.
@@ -133,19 +130,18 @@ pub trait Link {
     ghost link_faults: { Self → ℕ };
 
     /// Puts the next datagram to the front of `into`, which has room for the longest, and answers its
-    /// length. None: nothing was waiting.
+    /// length. None: nothing was waiting. `Failed` comes only where the count of faults rose in this call.
     fn receive(&mut self, into: &mut [u8]) -> Result<Option<usize>, Failed>
         requires { 65507 ≤ length into.old }
         ensures bound { IfOk result (λ got. IfSome got (λ n. n ≤ 65507)) }
-        ensures heard {
-            Self.tells → IfOk result
-                (λ got. heard self.new ≡ heard self.old ++ option_map (λ n. take n into.new) got ∷ [])
-        }
+        ensures heard { Self.tells → IfOk result
+            (λ got. heard self.new ≡ heard self.old ++ option_map (λ n. take n into.new) got ∷ []) }
         ensures unheard { Self.tells → OnErr result (heard self.new ≡ heard self.old) }
         ensures unsent { Self.tells → sent self.new ≡ sent self.old }
         ensures cause { HasCause (link_faults self.old) (link_faults self.new) result };
 
-    /// Sends one datagram. After `Failed` it was not sent.
+    /// Sends one datagram. `Failed` comes only where the count of faults rose in this call, and then it was
+    /// not sent.
     fn send(&mut self, bytes: &[u8]) -> Result<(), Failed>
         ensures sent { Self.tells → OnOk result (sent self.new ≡ sent self.old ++ bytes.now ∷ []) }
         ensures unsent { Self.tells → OnErr result (sent self.new ≡ sent self.old) }

@@ -1,6 +1,6 @@
-use Rattle.std.proofs.Common.{ℕ, ◌≡◌, true, IsTrue, inl, subst, ap, sym}
-use Rattle.dur_outside.specs.Calls.{GivenCalls, IsListed}
-use Rattle.dur_outside.specs.Memory.{GivenDisk, IsSet}
+use Rattle.std.proofs.Common.{inl, subst}
+use Rattle.dur_outside.specs.Calls.{IsListed}
+use Rattle.dur_outside.specs.Memory.{GivenDisk}
 use Rattle.dur_outside.proofs.disk.MemDisk.is_set.Goals as goal
 
 pub returns-then-listed : goal.returns-then-listed
