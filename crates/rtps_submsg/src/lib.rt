@@ -12,7 +12,7 @@ mod sub;
 mod writing;
 
 pub use first::{FirstData, first_data};
-pub use laws::one_reading;
+pub use laws::{bits_in_place, one_reading};
 pub use reading::read_sub;
 pub use sub::{DataSub, Sub, SubFault, SubKind};
 pub use writing::write_sub;
