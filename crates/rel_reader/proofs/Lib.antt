@@ -1,0 +1,6 @@
+pub mod RingPlaces
+pub mod Knowing
+pub mod Learning
+pub mod Moving
+pub mod Sets
+pub mod Missing
