@@ -6,7 +6,7 @@ use Rattle.std.proofs.lemmas.Bool.{cases_lt, ne_eqb, lt-ltb, le-ltb, true≢fals
 use Rattle.dur_base.specs.declared.sample.Sample.{Sample}
 use Rattle.rel_reader.specs.declared.known.Known.{Known}
 use Rattle.rel_reader.specs.declared.known.Known.TheVariants.{Unknown, Irrelevant, With}
-use Rattle.rel_reader.specs.Knowledge.{or_else}
+use Rattle.rel_reader.specs.Knowledge.{or_else, is_irrelevant}
 use Rattle.rel_reader.specs.Stories.{Story, next}
 use Rattle.rel_reader.specs.KnownNumbers.{known}
 use Rattle.rel_reader.specs.Skips.{IsSkip}
@@ -20,14 +20,14 @@ no_hole true e p = p
 no_hole false e p = refl
 
 -- on to another number
-pub moved : (w : Window) (to : ℕ) (places : List Known)
+pub moved : (w : Window) (to top : ℕ) (places : List Known)
     → ((k : ℕ) → to ≤ k → k < w.next + 256 → place_at places k ≡ place_at w.places k)
     → ((k : ℕ) → to ≤ k → w.next + 256 ≤ k → k < to + 256 → place_at places k ≡ Unknown)
     → w.next < to → (n : ℕ) (f : ℕ → Known) → Shows w n f
-    → Shows (record { next = to; floor = w.floor; refused = false; places = places }) to f
-moved w to places stays comes after n f s =
+    → Shows (record { next = to; floor = w.floor; top = top; refused = false; places = places }) to f
+moved w to top places stays comes after n f s =
     let start : w.next ≡ n = s.next in
-    let new : Window = record { next = to; floor = w.floor; refused = false; places = places } in
+    let new : Window = record { next = to; floor = w.floor; top = top; refused = false; places = places } in
     record {
       next = refl;
       each = λ k h.
@@ -53,7 +53,7 @@ pub pulled : (w : Window) → length w.places ≡ 256 → (n : ℕ) (f : ℕ →
 pulled w size n f s =
     let start : w.next ≡ n = s.next in
     subst (λ (m : ℕ). Shows (past_next w) (m + 1) f) start
-    (moved w (w.next + 1) (slice_set w.places (w.next % 256) Unknown)
+    (moved w (w.next + 1) w.top (slice_set w.places (w.next % 256) Unknown)
     (λ k a b. put_other w.places w.next k Unknown (λ d. absurd (omega arith)))
     (λ k a b d. same_place (slice_set w.places (w.next % 256) Unknown) k w.next (omega arith) ∙ put_same w.places w.next Unknown size)
     (omega arith) n f s)
@@ -62,11 +62,11 @@ pub some_is : (o : Option Sample) (x : Known) (s : Sample) → IsSome o → IfSo
 some_is (Some t) x s h e d = let same : With t ≡ With s = sym e ∙ d in cc
 some_is None x s h e d = absurd (true≢false (sym h))
 
-pub skip_of : (w : Window) (h : Story) (to : ℕ) → Fits w h → w.next < to → ((k : ℕ) → w.next ≤ k → k < to → known_in w k ≡ Irrelevant) → (known_in w to ≡ Irrelevant → 2 ^ 63 - 1 ≤ to) → IsSkip h to
+pub skip_of : (w : Window) (h : Story) (to : ℕ) → Fits w h → w.next < to → ((k : ℕ) → w.next ≤ k → k < to → known_in w k ≡ Irrelevant) → is_irrelevant (known_in w to) ≡ false → IsSkip h to
 skip_of w h to s some each ends =
     let start : w.next ≡ next h = s.next in
     record {
       some = omega arith;
       each = λ k a b. sym (s.each k a) ∙ each k (omega arith) b;
-      ends = λ e. let none : known h to ≡ Unknown = s.last to (ends (s.each to (omega arith) ∙ e)) in cc;
+      ends = λ e. true≢false (sym (ap is_irrelevant (s.each to (omega arith) ∙ e)) ∙ ends);
     }

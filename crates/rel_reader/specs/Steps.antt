@@ -33,15 +33,15 @@ is_open w j = nat_le w.next j && (is_near w.next j && is_unknown (known_in w j))
 
 -- the window with what is now known of the number j
 abbrev pub with_known : Window → ℕ → Known → Window
-with_known w j x = record { next = w.next; floor = w.floor; refused = w.refused && not (j == w.next); places = slice_set w.places (j % 256) x }
+with_known w j x = record { next = w.next; floor = w.floor; top = max w.top (j + 1); refused = w.refused && not (j == w.next); places = slice_set w.places (j % 256) x }
 
 -- the window where all below `first` is irrelevant
 abbrev pub with_floor : Window → ℕ → Window
-with_floor w first = record { next = w.next; floor = max w.floor first; refused = w.refused && nat_le first w.next; places = w.places }
+with_floor w first = record { next = w.next; floor = max w.floor first; top = w.top; refused = w.refused && nat_le first w.next; places = w.places }
 
 -- the window past its next number
 abbrev pub past_next : Window → Window
-past_next w = record { next = w.next + 1; floor = w.floor; refused = false; places = slice_set w.places (w.next % 256) Unknown }
+past_next w = record { next = w.next + 1; floor = w.floor; top = w.top; refused = false; places = slice_set w.places (w.next % 256) Unknown }
 
 -- the numbers from one up to below another of which the window knows nothing
 abbrev pub missing_upto : Window → ℕ → ℕ → ℕ → Bool

@@ -9,22 +9,29 @@ use Rattle.rel_reader.specs.Stories.{Story, next}
 use Rattle.rel_reader.specs.KnownNumbers.{known}
 use Rattle.rel_reader.specs.Places.{place_at}
 
--- The next number; a floor, below which all numbers are irrelevant that no place speaks of; whether the next number was refused
--- and nothing came of it since; and a place for each of the 256 numbers from next on.
+-- The next number; a floor, below which all numbers are irrelevant that no place speaks of; a top, from which on no place is
+-- filled; whether the next number was refused and nothing came of it since; and a place for each of the 256 numbers from next on.
 pub record Window : Type 0 where
   pub next : ℕ
   pub floor : ℕ
+  pub top : ℕ
   pub refused : Bool
   pub places : List Known
 
 abbrev pub coded_window : Coded Window
-coded_window = code_by (ℕ × (ℕ × (Bool × List Known))) (coded× coded_ℕ (coded× coded_ℕ (coded× coded_bool (coded_list known_row.the_row.coded)))) (λ w. (w.next, (w.floor, (w.refused, w.places)))) (λ p. record { next = p.0; floor = p.1.0; refused = p.1.1.0; places = p.1.1.1 }) (λ _. refl)
+coded_window = code_by (ℕ × (ℕ × (ℕ × (Bool × List Known)))) (coded× coded_ℕ (coded× coded_ℕ (coded× coded_ℕ (coded× coded_bool (coded_list known_row.the_row.coded))))) (λ w. (w.next, (w.floor, (w.top, (w.refused, w.places))))) (λ p. record { next = p.0; floor = p.1.0; top = p.1.1.0; refused = p.1.1.1.0; places = p.1.1.1.1 }) (λ _. refl)
 
--- its numbers are sequence numbers, and it has 256 places
+-- no place is filled from the top on
+abbrev pub IsTop : Window → Type 0
+IsTop w = (k : ℕ) → w.next ≤ k → w.top ≤ k → k < w.next + 256 → place_at w.places k ≡ Unknown
+
+-- its numbers are sequence numbers, it has 256 places, and none is filled from the top on
 pub record IsWindow (w : Window) : Type 0 where
   pub next : (0 < w.next) × (w.next < 2 ^ 63)
   pub floor : w.floor < 2 ^ 63
   pub length : length w.places ≡ 256
+  pub top : w.top < 2 ^ 63
+  pub above : IsTop w
 
 -- what the places tell of a number
 abbrev pub kept_at : Window → ℕ → Known

@@ -30,6 +30,8 @@ pub struct Proxy {
     next: u64,
     // Numbers below it are irrelevant where no place speaks of them.
     floor: u64,
+    // No place is filled for a number from this one on, so that no scan goes farther.
+    top: u64,
     // The next number was refused, and nothing came of it since: it is not known in spite of the floor.
     refused: bool,
     // A ring with a place for each number of the window.
@@ -43,9 +45,9 @@ impl Model for Proxy {
 
     ghost coded = { coded_window };
 
-    ghost view = { λ p. record { next = p.next; floor = p.floor; refused = p.refused; places = p.places.items } };
+    ghost view = { λ p. record { next = p.next; floor = p.floor; top = p.top; refused = p.refused; places = p.places.items } };
 
-    ghost invariant = { λ p. IsWindow (record { next = p.next; floor = p.floor; refused = p.refused; places = p.places.items }) };
+    ghost invariant = { λ p. IsWindow (record { next = p.next; floor = p.floor; top = p.top; refused = p.refused; places = p.places.items }) };
 }
 
 /// A refused number is not known until something is told of it.
@@ -79,6 +81,7 @@ impl Proxy {
         Ok(Proxy {
             next,
             floor: next,
+            top: next,
             refused: false,
             places,
         })
@@ -170,16 +173,19 @@ impl Proxy {
 
     /// Writes what is now known of a number of the window.
     fn write(&mut self, number: u64, known: Known)
+        requires { (self.old.next ≤ number) × (number < self.old.next + 256) × (number < 2 ^ 63 - 1) }
         ensures after { self.new ≡ with_known self.old number known }
         ensures size { length self.old.places ≡ 256 }
     {
         self.refused = still_refused(self.refused, number != self.next);
+        self.top = self.top.max(number + 1);
         let _before = ring::put(self.places.as_mut_slice(), number, known);
     }
 
     /// Whether a number is in the window and nothing is known of it.
     fn is_open(&self, number: u64) -> bool
-        ensures { result ≡ is_open self.now number }
+        ensures value { result ≡ is_open self.now number }
+        ensures range { IsTrue result → (self.now.next ≤ number) × (number < self.now.next + 256) × (number < 2 ^ 63 - 1) }
     {
         self.next <= number && number < self.next + 256 && number < LAST && self.is_unknown(number)
     }
@@ -235,15 +241,15 @@ impl Proxy {
         }
     }
 
-    /// The first number from next on that is not irrelevant. It looks at no more than 256 places.
+    /// The first number from next on that is not irrelevant. It looks at the places below the top alone.
     fn end_of_skip(&self) -> u64
         requires { is_irrelevant (known_in self.now self.now.next) ≡ true }
         ensures range { (self.now.next < result) × (result ≤ 2 ^ 63) }
         ensures low { self.now.next < 2 ^ 63 - 1 → result < 2 ^ 63 }
         ensures each { (k : ℕ) → self.now.next ≤ k → k < result → known_in self.now k ≡ Irrelevant }
-        ensures ends { known_in self.now result ≡ Irrelevant → 2 ^ 63 - 1 ≤ result }
+        ensures ends { is_irrelevant (known_in self.now result) ≡ false }
     {
-        let limit = (self.next + 256).min(LAST);
+        let limit = (self.next + 256).min(self.top);
         let mut end = self.next + 1;
         while end < limit {
             if !self.is_irrelevant(end) {
@@ -290,7 +296,7 @@ impl Proxy {
         requires small { to < 2 ^ 63 }
         ensures { (n : ℕ) (f : ℕ → Known) → Shows self.old n f → Shows self.new to f }
     {
-        ring::clear(self.places.as_mut_slice(), self.next, to);
+        ring::clear(self.places.as_mut_slice(), self.next, to, self.top);
         self.next = to;
         self.refused = false;
     }

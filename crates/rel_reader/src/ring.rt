@@ -25,17 +25,19 @@ pub(crate) fn put(places: &mut [Known], number: u64, known: Known) -> Known
     std::mem::replace(&mut places[(number % 256) as usize], known)
 }
 
-/// Empties the places of the numbers from one up to below another, so that the window may begin there.
-pub(crate) fn clear(places: &mut [Known], from: u64, to: u64)
+/// Empties the places of the numbers from one up to below another, so that the window may begin there. From the top on
+/// all are empty.
+pub(crate) fn clear(places: &mut [Known], from: u64, to: u64, top: u64)
     requires length { length places.old ≡ 256 }
     requires small { from < 2 ^ 63 }
     requires rises { from ≤ to }
+    requires above { (k : ℕ) → from ≤ k → top ≤ k → k < from + 256 → place_at places.old k ≡ Unknown }
     // What stands in both windows stays.
     ensures stays { (k : ℕ) → to ≤ k → k < from + 256 → place_at places.new k ≡ place_at places.old k }
     // The numbers that come into the window have empty places.
     ensures comes { (k : ℕ) → to ≤ k → from + 256 ≤ k → k < to + 256 → place_at places.new k ≡ Unknown }
 {
-    let end = to.min(from + 256);
+    let end = from.max(to.min(from + 256).min(top));
     for k in from..end {
         let _before = put(places, k, Known::Unknown);
     }
