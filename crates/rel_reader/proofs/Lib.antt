@@ -2,6 +2,5 @@ pub mod RingPlaces
 pub mod Knowing
 pub mod Learning
 pub mod Moving
-pub mod Tops
 pub mod Sets
 pub mod Missing

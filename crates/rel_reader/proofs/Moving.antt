@@ -1,5 +1,5 @@
 -- A window that goes on to another next number.
-use Rattle.std.proofs.Common.{◌≡◌, ℕ, ◌+◌, ◌-◌, ◌%◌, ◌^◌, ◌<◌, ◌≤◌, ◌==◌, ◌&&◌, not, Bool, true, false, cond, List, length, refl, ap, sym, subst, ◌∙◌, arith, inl, inr}
+use Rattle.std.proofs.Common.{◌≡◌, ℕ, ◌+◌, ◌%◌, ◌<◌, ◌≤◌, ◌==◌, ◌&&◌, not, Bool, true, false, cond, List, length, refl, ap, sym, subst, ◌∙◌, arith, inl, inr}
 use Rattle.std.specs.Prelude.{slice_set, nat_lt, IsSome, IfSome, Some, None}
 use Rattle.std.specs.declared.option.Option.{Option}
 use Rattle.std.proofs.lemmas.Bool.{cases_lt, ne_eqb, lt-ltb, le-ltb, true≢false}
@@ -8,7 +8,6 @@ use Rattle.rel_reader.specs.declared.known.Known.{Known}
 use Rattle.rel_reader.specs.declared.known.Known.TheVariants.{Unknown, Irrelevant, With}
 use Rattle.rel_reader.specs.Knowledge.{or_else, is_irrelevant}
 use Rattle.rel_reader.specs.Stories.{Story, next}
-use Rattle.rel_reader.specs.KnownNumbers.{known}
 use Rattle.rel_reader.specs.Skips.{IsSkip}
 use Rattle.rel_reader.specs.Places.{place_at}
 use Rattle.rel_reader.specs.Windows.{Window, Fits, Shows, known_in, kept_at, below_floor}
