@@ -14,6 +14,7 @@ use Rattle.rel_reader.specs.Steps.{said, said_below, is_open, with_known, with_f
 use Rattle.rel_reader.proofs.RingPlaces.{put_same, put_other}
 use Rattle.rel_reader.proofs.Knowing.{or_nothing, or_known, or_unknown, or_assoc}
 
+-- what a window knows may be said in another way
 pub same_shown : (w : Window) (n : ℕ) (f g : ℕ → Known) → ((k : ℕ) → f k ≡ g k) → Shows w n f → Shows w n g
 same_shown w n f g e s = record { next = s.next; each = λ k h. s.each k h ∙ e k; last = λ k h. sym (e k) ∙ s.last k h }
 
@@ -94,6 +95,7 @@ known_other w j k x ne a b c =
     let below : below_floor (with_known w j x) k ≡ below_floor w k = ap (λ t. cond (nat_lt k w.floor && not t) Irrelevant Unknown) (hole_other w.refused (j == w.next) (k == w.next) (apart w.next j k ne)) in
     ap (λ p. or_else p (below_floor (with_known w j x) k)) kept ∙ ap (or_else (kept_at w k)) below
 
+-- what is known of the number that was written, and of any other
 known_here : (w : Window) (j : ℕ) (x : Known) → length w.places ≡ 256 → j < w.next + 256 → is_unknown x ≡ false → known_in (with_known w j x) j ≡ x
 known_here w j x size near some =
     ap (λ t. or_else (cond t (place_at (slice_set w.places (j % 256) x) j) Unknown) (below_floor (with_known w j x) j)) (lt-ltb j (w.next + 256) near)
@@ -160,6 +162,7 @@ floor_raised w first k =
     ∙ below_raised (k == w.next) w.refused (nat_le first w.next) (nat_lt k w.floor) (nat_lt k first)
     (λ e. let here : k ≡ w.next = eqb-true k w.next e in le_not_lt first w.next ∙ ap (λ i. not (nat_lt i first)) (sym here))
 
+-- a raised floor
 pub raised : (w : Window) (first : ℕ) → first < 2 ^ 63 → (n : ℕ) (f : ℕ → Known) → Shows w n f
     → Shows (with_floor w first) n (λ k. or_else (f k) (said_below first k))
 raised w first small n f s = record {

@@ -4,3 +4,4 @@ pub mod Learning
 pub mod Moving
 pub mod Sets
 pub mod Missing
+pub mod OneSkip

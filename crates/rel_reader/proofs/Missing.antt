@@ -43,6 +43,7 @@ missing_no w start upto u k = elim (cases_eq k upto) [
   | inr ne ↦ missing_other w start upto k ne
 ]
 
+-- one number more
 pub missing_more : (w : Window) (start upto : ℕ) (u : Bool) (k : ℕ) → start ≤ upto → u ≡ is_unknown (known_in w upto) → (missing_upto w start upto k || (u && (k == upto))) ≡ missing_upto w start (upto + 1) k
 missing_more w start upto true k h e = missing_yes w start upto h (sym e) k
 missing_more w start upto false k h e = or_off (missing_upto w start upto k) ∙ missing_no w start upto (sym e) k
@@ -53,6 +54,7 @@ up_to start most k h = elim (cases_lt most k) [
   | inr ge ↦ lt-ltb k (max start (most + 1)) (omega arith) ∙ sym (le-leb k most ge)
 ]
 
+-- from next on up to the lesser of last and base + 255, the missing numbers of a window are those of its story
 pub missing_all : (w : Window) (h : Story) (base last k : ℕ) → Fits w h → missing_upto w w.next (max w.next (min last (base + 255) + 1)) k ≡ is_missing h base last k
 missing_all w h base last k s =
     let start : w.next ≡ next h = s.next in

@@ -18,7 +18,7 @@ no_hole : (h e : Bool) → e ≡ false → (h && e) ≡ false
 no_hole true e p = p
 no_hole false e p = refl
 
--- on to another number
+-- on to another number: what stands in both windows stays, and what comes into the window is empty
 pub moved : (w : Window) (to top : ℕ) (places : List Known)
     → ((k : ℕ) → to ≤ k → k < w.next + 256 → place_at places k ≡ place_at w.places k)
     → ((k : ℕ) → to ≤ k → w.next + 256 ≤ k → k < to + 256 → place_at places k ≡ Unknown)
@@ -48,6 +48,7 @@ moved w to top places stays comes after n f s =
       last = s.last;
     }
 
+-- past a sample
 pub pulled : (w : Window) → length w.places ≡ 256 → (n : ℕ) (f : ℕ → Known) → Shows w n f → Shows (past_next w) (n + 1) f
 pulled w size n f s =
     let start : w.next ≡ n = s.next in
@@ -57,10 +58,12 @@ pulled w size n f s =
     (λ k a b d. same_place (slice_set w.places (w.next % 256) Unknown) k w.next (omega arith) ∙ put_same w.places w.next Unknown size)
     (omega arith) n f s)
 
+-- what was taken out is the sample
 pub some_is : (o : Option Sample) (x : Known) (s : Sample) → IsSome o → IfSome o (λ t. x ≡ With t) → x ≡ With s → o ≡ Some s
 some_is (Some t) x s h e d = let same : With t ≡ With s = sym e ∙ d in cc
 some_is None x s h e d = absurd (true≢false (sym h))
 
+-- a window's longest range of irrelevant numbers is the story's skip
 pub skip_of : (w : Window) (h : Story) (to : ℕ) → Fits w h → w.next < to → ((k : ℕ) → w.next ≤ k → k < to → known_in w k ≡ Irrelevant) → is_irrelevant (known_in w to) ≡ false → IsSkip h to
 skip_of w h to s some each ends =
     let start : w.next ≡ next h = s.next in

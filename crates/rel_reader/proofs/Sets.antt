@@ -14,6 +14,7 @@ or_cond : (a b : Bool) → or_else (cond a Irrelevant Unknown) (cond b Irrelevan
 or_cond true b = refl
 or_cond false b = refl
 
+-- a GAP tells what its base tells and what all its bits tell
 pub gap_said : (n start : ℕ) (set : NumberSet) (x : Known) (k : ℕ)
     → or_else (or_else x (said_to n start set.base k)) (said_named n set set.count k) ≡ or_else x (says_gap n start set k)
 gap_said n start set x k =
@@ -50,6 +51,7 @@ one_said n set i k = elim (cases_eq k (set.base + i)) [
       ∙ ap (λ t. cond (t && is_near n k) Irrelevant Unknown) (same_order set.base i k (has_bit set.words (k - set.base)) ne)
 ]
 
+-- one bit more
 pub one_more : (n : ℕ) (set : NumberSet) (i : ℕ) (x : Known) (k : ℕ) → or_else (or_else x (said_named n set i k)) (said_one n set i k) ≡ or_else x (said_named n set (i + 1) k)
 one_more n set i x k = or_assoc x (said_named n set i k) (said_one n set i k) ∙ ap (or_else x) (one_said n set i k)
 
@@ -60,6 +62,7 @@ no_bit n set i x h k = sym (ap (or_else x) (ap (λ t. cond (((k == set.base + i)
   nothing true = refl
   nothing false = refl
 
+-- a bit that is set tells of its number
 pub a_bit : (n : ℕ) (set : NumberSet) (i : ℕ) (x : Known) → has_bit set.words i ≡ true → (k : ℕ) → or_else x (said n (set.base + i) Irrelevant k) ≡ or_else x (said_one n set i k)
 a_bit n set i x h k = ap (λ t. or_else x (cond (t && is_near n k) Irrelevant Unknown)) (sym (ap (λ t. (k == set.base + i) && t) h ∙ and_true (k == set.base + i))) where
   and_true : (t : Bool) → (t && true) ≡ t

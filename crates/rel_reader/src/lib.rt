@@ -3,6 +3,7 @@
 #![tactic(auto)]
 
 mod known;
+mod laws;
 mod proxy;
 mod ready;
 mod ring;
@@ -10,5 +11,6 @@ mod ring;
 mod tests;
 
 pub use known::Known;
+pub use laws::skips_have_one_end;
 pub use proxy::Proxy;
 pub use ready::Ready;

@@ -2,10 +2,9 @@
 
 ghost use Rattle.std.specs.Prelude.{◌≡◌, ℕ, ◌+◌, ◌-◌, ◌<◌, ◌≤◌, ◌^◌, ◌==◌, ◌&&◌, ◌||◌, ◌↔◌, IfOk, IsTrue, IsSome, IfSome, Some, None, length, not, nat_lt, nat_le, true, false};
 ghost use Rattle.rel_reader.specs.Places.{place_at};
-ghost use Rattle.rel_reader.specs.Knowledge.{is_irrelevant, is_unknown, is_with};
+ghost use Rattle.rel_reader.specs.Knowledge.{is_irrelevant, is_unknown, is_with, or_else};
 ghost use Rattle.rel_reader.specs.Stories.{Story, Begin, ◌▸◌, Data, Gap, Beat, Handled, Refused, next};
 ghost use Rattle.rel_reader.specs.KnownNumbers.{known};
-ghost use Rattle.rel_reader.specs.Knowledge.{or_else};
 ghost use Rattle.rel_reader.specs.Skips.{IsSkip};
 ghost use Rattle.rel_reader.specs.MissingNumbers.{is_missing};
 ghost use Rattle.rel_reader.specs.declared.known.Known.TheVariants.{Unknown, Irrelevant, With};
@@ -50,7 +49,7 @@ impl Model for Proxy {
     ghost invariant = { λ p. IsWindow (record { next = p.next; floor = p.floor; top = p.top; refused = p.refused; places = p.places.items }) };
 }
 
-/// A refused number is not known until something is told of it.
+/// Whether the next number still counts as refused: it does until something is told of it.
 fn still_refused(refused: bool, other: bool) -> bool
     ensures { result ≡ (refused && other) }
 {
