@@ -1,7 +1,7 @@
 #!/usr/bin/env bash
 # Facts per second that a reader's proxy takes and handles, where they come in order, in reverse within the window, with
 # one number missing until a heartbeat shows it, and as heartbeats alone that skip more than a window each. Each line
-# has its ratio to the fastest one; no order may be ten times slower than another.
+# has its ratio to the fastest order of data; it ends with the status 1 where one is ten times slower than that.
 #
 # Writes a small program into a folder of its own under the system's temporary folder, with copies of the crates that
 # it stands on, has it proved and compiled there, runs it, and removes the folder.
@@ -35,6 +35,7 @@ use std::time::{Clock, Instant};
 
 const WINDOWS: u64 = $windows;
 
+#[derive(Drop)]
 enum Order {
     Forward,
     Backward,
@@ -160,12 +161,12 @@ fi
 awk -v wanted="$((windows * 256))" '
     /^(in-order|in-reverse|one-missing|heartbeats) / {
         if ($2 != wanted) { print $1 ": " $2 " were handled, and not " wanted; bad = 1 }
-        name[++lines] = $1; speed[lines] = $3; if ($3 > best) best = $3
+        name[++lines] = $1; speed[lines] = $3; if ($1 != "heartbeats" && $3 > best) best = $3
     }
     END {
         if (lines != 4) exit 1
         for (i = 1; i <= lines; i++) {
-            printf "%s: %d facts a second, %.1f times slower than the fastest\n", name[i], speed[i], best / speed[i]
+            printf "%s: %d facts a second, ratio %.2f\n", name[i], speed[i], speed[i] / best
             if (speed[i] * 10 < best) bad = 1
         }
         exit bad

@@ -1,5 +1,5 @@
 -- A story has one skip at most.
-use Rattle.std.proofs.Common.{◌≡◌, ℕ, ◌<◌, ◌≤◌, arith, inl, inr}
+use Rattle.std.proofs.Common.{◌≡◌, ℕ, arith, inl, inr}
 use Rattle.std.proofs.lemmas.Bool.{cases_lt}
 use Rattle.rel_reader.specs.Stories.{Story}
 use Rattle.rel_reader.specs.Skips.{IsSkip}

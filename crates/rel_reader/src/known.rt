@@ -31,7 +31,7 @@ impl Known {
     }
 
     /// Whether nothing is known.
-    pub fn is_unknown(&self) -> bool
+    pub(crate) fn is_unknown(&self) -> bool
         ensures { result ≡ is_unknown self.now }
     {
         match self {
@@ -41,7 +41,7 @@ impl Known {
     }
 
     /// Whether it is known without a sample.
-    pub fn is_irrelevant(&self) -> bool
+    pub(crate) fn is_irrelevant(&self) -> bool
         ensures { result ≡ is_irrelevant self.now }
     {
         match self {
