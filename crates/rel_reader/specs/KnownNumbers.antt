@@ -23,7 +23,8 @@ says_gap next start set k = if (nat_le start next && nat_lt k set.base) || (name
 abbrev pub says_beat : ℕ → ℕ → Known
 says_beat first k = if nat_lt k first then Irrelevant else Unknown
 
--- What is known of the number k, where k is at least next. The first news of it counts, and a refusal ends what was known.
+-- What is known of the number k, where k is at least next. The first news of it counts, handling lower numbers leaves it as it
+-- is, and a refusal ends what was known of the next number.
 abbrev pub known : Story → ℕ → Known
 known (Begin n) k = Unknown
 known (h ▸ Data j read) k = or_else (known h k) (says_data (next h) j read k)

@@ -49,7 +49,7 @@ known_in w k = or_else (kept_at w k) (below_floor w k)
 abbrev pub HasSample : Window → Type 0
 HasSample w = is_with (known_in w w.next) ≡ true
 
--- The window has the next number n, and knows what f tells of each number from n on.
+-- The window has the next number n, and knows what f tells of each number from n on; of 2^63 - 1 and above that is nothing.
 pub record Shows (w : Window) (n : ℕ) (f : ℕ → Known) : Type 0 where
   pub next : w.next ≡ n
   pub each : (k : ℕ) → n ≤ k → known_in w k ≡ f k
