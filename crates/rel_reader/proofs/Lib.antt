@@ -1,0 +1,7 @@
+pub mod RingPlaces
+pub mod Knowing
+pub mod Learning
+pub mod Moving
+pub mod Sets
+pub mod Missing
+pub mod OneSkip
