@@ -94,7 +94,8 @@ fn admit(
 
 /// What a break of the capture is where that many octets are left.
 fn stop_of(fault: CapFault, left: usize) -> Stop
-    ensures { (at : ℕ) → result ≡ Stop.NotYet at → (at ≡ left) × (fault ≡ CapFault.OutOfMemory → ⊥) }
+    ensures not_yet { (at : ℕ) → result ≡ Stop.NotYet at → (at ≡ left) × (fault ≡ CapFault.OutOfMemory → ⊥) }
+    ensures memory { result ≡ Stop.Memory → fault ≡ CapFault.OutOfMemory }
 {
     match fault {
         CapFault::OutOfMemory => Stop::Memory,

@@ -1,5 +1,6 @@
 //! The rows of the first path, and each of its objects failing.
 
+use crate::laws::{lists_or_stops, stops_once, text_once};
 use crate::run::durability;
 use crate::status::{Status, number};
 use dur_base::{List, Octets};
@@ -122,6 +123,9 @@ fn other_forms_and_words_are_named(rt: HostRuntime) {
             b"durability: not yet 197\n"
         )
     );
+    lists_or_stops();
+    text_once();
+    stops_once();
     let done = run(alloc, "lists", FIRST, b"", none(alloc));
     assert!(rt; gives(&done, Status::Usage, b"", b"durability: usage\n"));
 }

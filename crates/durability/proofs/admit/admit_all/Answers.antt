@@ -9,9 +9,9 @@ returns-in-Err-next c =
       depth = tt;
       entries = tt;
       whole = tt;
-      left = λ at e. omega (arith, (c.stop_of.ensures at e).0, w.left_is, w.counts);
+      left = λ at e. omega (arith, (c.stop_of.ensures.not_yet at e).0, w.left_is, w.counts);
       stop = λ at e.
-          let named = c.stop_of.ensures at e in
+          let named = c.stop_of.ensures.not_yet at e in
           let stuck = stops_stuck c.in-Err-next.fault c.records.feed _ (omega (arith, w.start, w.counts, c.requires)) w.sound named.1 c.in-Err-next.ensures.fault in
           stops _ _ _ _ _ _ c.records.invariant.progress (inl stuck.1) (stuck_stops _ (record { moment = c.records.moment; next = c.records.next; entries = c.records.store.entries }) _ stuck.0) (named.0 ∙ w.left_is);
     }
