@@ -1,0 +1,277 @@
+#!/usr/bin/env python3
+"""Makes capture records of the UDP datagrams in a file of tcpdump or Wireshark.
+
+    pcap_to_capture.py [--port N]... [--source ADDRESS]... [--plan FILE] [--output FILE] PCAP
+
+Reads classic pcap and pcapng over Ethernet (with VLAN tags), raw IP, Linux cooked and loopback links,
+IPv4 and IPv6. A record's moment is the packet's time since the Unix epoch in ticks of 2^-32 s, and its
+port is the UDP destination port. With --port only datagrams to one of these ports are taken, with
+--source only those from one of these addresses. With --plan that file's octets stand in front, so
+that what is written is a whole input.
+
+Fragments of IP packets, packets that were cut off when they were captured, and packets that are no UDP
+are left out, and counted on standard error. A file that is broken or of another kind is told with the
+octet at which it is so, and then nothing is written.
+"""
+import argparse
+import ipaddress
+import os
+import struct
+import sys
+import tempfile
+from collections import Counter
+
+LONGEST = 65507
+VLAN_TAGS = (0x8100, 0x88A8, 0x9100)
+ETHERNET, RAW, SLL, SLL2, NULL, LOOP, IPV4, IPV6 = (1,), (101, 12, 14), (113,), (276,), (0,), (108,), (228,), (229,)
+
+
+class BadFile(Exception):
+    """A file that is broken or of another kind, and the octet at which it is so."""
+
+    def __init__(self, place, what):
+        super().__init__(f"octet {place}: {what}")
+
+
+def field(data, place, form, what):
+    """The fields of that form at a place."""
+    if place + struct.calcsize(form) > len(data):
+        raise BadFile(place, f"the file ends inside {what}")
+    return struct.unpack_from(form, data, place)
+
+
+def ticks(place, seconds, fraction, units):
+    """The time that stands at a place, in ticks of 2^-32 s, rounded down."""
+    moment = (seconds << 32) + (fraction << 32) // units
+    if not 0 <= moment < 1 << 64:
+        raise BadFile(place, "the time lies before the Unix epoch, or more than 2^32 seconds after it")
+    return moment
+
+
+# ---- packets of a file: (moment, link type, octets, whether the packet was cut off)
+
+
+def pcap_packets(data):
+    """The packets of a classic pcap file."""
+    order, units = {
+        b"\xd4\xc3\xb2\xa1": ("<", 10**6),
+        b"\xa1\xb2\xc3\xd4": (">", 10**6),
+        b"\x4d\x3c\xb2\xa1": ("<", 10**9),
+        b"\xa1\xb2\x3c\x4d": (">", 10**9),
+    }[data[:4]]
+    link = field(data, 20, order + "I", "the file's header")[0] & 0xFFFF
+    place = 24
+    while place < len(data):
+        seconds, fraction, kept, length = field(data, place, order + "IIII", "a packet's header")
+        if place + 16 + kept > len(data):
+            raise BadFile(place + 8, "the packet is longer than what is left of the file")
+        if fraction >= units:
+            raise BadFile(place + 4, "the fraction of a second is no fraction")
+        yield ticks(place, seconds, fraction, units), link, data[place + 16 : place + 16 + kept], kept < length
+        place += 16 + kept
+
+
+def options(data, place, end, order):
+    """The options of a pcapng block, by their codes."""
+    found = {}
+    while place + 4 <= end:
+        code, length = struct.unpack_from(order + "HH", data, place)
+        if code == 0:
+            break
+        if place + 4 + length > end:
+            raise BadFile(place, "an option is longer than its block")
+        found[code] = data[place + 4 : place + 4 + length]
+        place += 4 + (length + 3) // 4 * 4
+    return found
+
+
+def interface(data, place, end, order):
+    """Link type, units of a second and offset in seconds of an interface."""
+    link = field(data, place, order + "H", "an interface")[0]
+    given = options(data, place + 8, end, order)
+    resolution = given.get(9, b"\x06")[:1] or b"\x06"
+    units = 1 << (resolution[0] & 0x7F) if resolution[0] & 0x80 else 10 ** resolution[0]
+    offset = given.get(14, b"")
+    return link, units, struct.unpack(order + "q", offset)[0] if len(offset) == 8 else 0
+
+
+def pcapng_packets(data):
+    """The packets of a pcapng file."""
+    place, order, interfaces = 0, "<", []
+    while place < len(data):
+        if data[place : place + 4] == b"\x0a\x0d\x0d\x0a":
+            magic = data[place + 8 : place + 12]
+            if magic not in (b"\x4d\x3c\x2b\x1a", b"\x1a\x2b\x3c\x4d"):
+                raise BadFile(place + 8, "the section has no byte order")
+            order, interfaces = "<" if magic == b"\x4d\x3c\x2b\x1a" else ">", []
+        kind, length = field(data, place, order + "II", "a block's header")
+        end = place + length
+        if length < 12 or length % 4 or end > len(data):
+            raise BadFile(place + 4, "the block's length does not fit")
+        if field(data, end - 4, order + "I", "a block")[0] != length:
+            raise BadFile(end - 4, "the block's two lengths differ")
+        if kind == 1:
+            interfaces.append(interface(data, place + 8, end - 4, order))
+        elif kind == 6:
+            number, high, low, kept, whole = field(data, place + 8, order + "IIIII", "a packet's block")
+            if number >= len(interfaces):
+                raise BadFile(place + 8, "no interface has that number")
+            if place + 28 + kept > end - 4:
+                raise BadFile(place + 20, "the packet is longer than its block")
+            link, units, offset = interfaces[number]
+            time = (high << 32) + low
+            yield ticks(place + 12, time // units + offset, time % units, units), link, data[place + 28 : place + 28 + kept], kept < whole
+        elif kind in (2, 3):
+            raise BadFile(place, "packet blocks without a time of their own, and obsolete ones, are not read")
+        place = end
+
+
+def packets(data):
+    """The packets of a file of either kind."""
+    if data[:4] in (b"\xd4\xc3\xb2\xa1", b"\xa1\xb2\xc3\xd4", b"\x4d\x3c\xb2\xa1", b"\xa1\xb2\x3c\x4d"):
+        return pcap_packets(data)
+    if data[:4] == b"\x0a\x0d\x0d\x0a":
+        return pcapng_packets(data)
+    raise BadFile(0, "this is neither pcap nor pcapng")
+
+
+# ---- from a packet to a datagram; each answers None for what is no UDP, or a word for why it is left out
+
+
+def network(link, packet):
+    """The IP packet behind a link's header."""
+    if link in ETHERNET:
+        place, kind = 12, None
+        while len(packet) >= place + 2:
+            kind = struct.unpack_from(">H", packet, place)[0]
+            place += 2
+            if kind not in VLAN_TAGS:
+                break
+            place += 2
+        return packet[place:] if kind in (0x0800, 0x86DD) else None
+    if link in SLL:
+        return packet[16:] if packet[14:16] in (b"\x08\x00", b"\x86\xdd") else None
+    if link in SLL2:
+        return packet[20:] if packet[:2] in (b"\x08\x00", b"\x86\xdd") else None
+    if link in NULL or link in LOOP:
+        return packet[4:]
+    if link in RAW or link in IPV4 or link in IPV6:
+        return packet
+    return None
+
+
+def transport(packet):
+    """Source address and UDP datagram of an IP packet, or why there is none."""
+    if not packet:
+        return None
+    if packet[0] >> 4 == 4 and len(packet) >= 20:
+        head, whole = (packet[0] & 15) * 4, struct.unpack_from(">H", packet, 2)[0]
+        if packet[9] != 17:
+            return None
+        if struct.unpack_from(">H", packet, 6)[0] & 0x3FFF:
+            return "fragments"
+        if head < 20 or whole > len(packet):
+            return "cut off"
+        return ipaddress.ip_address(packet[12:16]), packet[head:whole]
+    if packet[0] >> 4 == 6 and len(packet) >= 40:
+        return transport_6(packet)
+    return None
+
+
+def transport_6(packet):
+    """The same of IPv6, past its extension headers."""
+    kind, place, whole = packet[6], 40, 40 + struct.unpack_from(">H", packet, 4)[0]
+    if whole > len(packet):
+        return "cut off"
+    while kind in (0, 43, 44, 60):
+        if place + 8 > whole:
+            return "cut off"
+        if kind == 44 and struct.unpack_from(">H", packet, place + 2)[0] & 0xFFF9:
+            return "fragments" if packet[place] == 17 else None
+        size = 8 if kind == 44 else 8 + packet[place + 1] * 8
+        kind, place = packet[place], place + size
+    return (ipaddress.ip_address(packet[8:24]), packet[place:whole]) if kind == 17 else None
+
+
+def datagram(link, packet, is_cut):
+    """Source, destination port and octets of a packet's datagram, or why it is left out."""
+    inner = network(link, packet)
+    found = transport(inner) if inner is not None else None
+    if found is None:
+        return "other packets"
+    if isinstance(found, str):
+        return found
+    source, segment = found
+    if len(segment) < 8:
+        return "cut off"
+    port, length = struct.unpack_from(">HH", segment, 2)
+    if length < 8 or length > len(segment) or (is_cut and length != len(segment)):
+        return "cut off"
+    return (source, port, segment[8:length]) if length - 8 <= LONGEST else "too long"
+
+
+def convert(data, ports=(), sources=()):
+    """Capture records of the datagrams that pass the filters, and how many packets were what."""
+    out, counts = [], Counter()
+    for moment, link, packet, is_cut in packets(data):
+        found = datagram(link, packet, is_cut)
+        if isinstance(found, str):
+            counts[found] += 1
+            continue
+        source, port, octets = found
+        if (ports and port not in ports) or (sources and source not in sources):
+            counts["filtered out"] += 1
+            continue
+        counts["datagrams"] += 1
+        out.append(struct.pack("<QHI", moment, port, len(octets)) + octets)
+    return b"".join(out), counts
+
+
+def write_whole(path, octets):
+    """Writes a file so that it is there whole or not at all."""
+    handle, name = tempfile.mkstemp(dir=os.path.dirname(os.path.abspath(path)))
+    try:
+        with os.fdopen(handle, "wb") as out:
+            out.write(octets)
+        os.replace(name, path)
+    except BaseException:
+        os.unlink(name)
+        raise
+
+
+def arguments():
+    parser = argparse.ArgumentParser(description="Makes capture records of the UDP datagrams in a pcap or pcapng file.")
+    parser.add_argument("--port", type=int, action="append", default=[], help="take datagrams to this port alone (may stand more than once)")
+    parser.add_argument("--source", type=ipaddress.ip_address, action="append", default=[], help="take datagrams from this address alone (may stand more than once)")
+    parser.add_argument("--plan", help="put this file in front")
+    parser.add_argument("--output", help="write to this file in place of standard output")
+    parser.add_argument("pcap", metavar="PCAP")
+    return parser.parse_args()
+
+
+def main():
+    given = arguments()
+    try:
+        with open(given.pcap, "rb") as file:
+            data = file.read()
+        plan = b""
+        if given.plan:
+            with open(given.plan, "rb") as file:
+                plan = file.read()
+        records, counts = convert(data, given.port, given.source)
+        if given.output:
+            write_whole(given.output, plan + records)
+        else:
+            sys.stdout.buffer.write(plan + records)
+    except BadFile as fault:
+        print(f"pcap_to_capture: {given.pcap}: {fault}", file=sys.stderr)
+        return 1
+    except OSError as fault:
+        print(f"pcap_to_capture: {fault}", file=sys.stderr)
+        return 1
+    print("pcap_to_capture: " + ", ".join(f"{counts[what]} {what}" for what in sorted(counts)), file=sys.stderr)
+    return 0
+
+
+if __name__ == "__main__":
+    sys.exit(main())
