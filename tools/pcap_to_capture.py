@@ -2,12 +2,14 @@
 """Makes capture records of the UDP datagrams in a file of tcpdump or Wireshark.
 
     pcap_to_capture.py [--port N]... [--source ADDRESS]... [--plan FILE] [--output FILE] PCAP
+    pcap_to_capture.py --summary PCAP
 
 Reads classic pcap and pcapng over Ethernet (with VLAN tags), raw IP, Linux cooked and loopback links,
 IPv4 and IPv6. A record's moment is the packet's time since the Unix epoch in ticks of 2^-32 s, and its
 port is the UDP destination port. With --port only datagrams to one of these ports are taken, with
 --source only those from one of these addresses. With --plan that file's octets stand in front, so
-that what is written is a whole input.
+that what is written is a whole input. With --summary the participants, writers and readers that
+discovery announces in the file are printed in place of records, and a plan that would list them.
 
 Fragments of IP packets, packets that were cut off when they were captured, and packets that are no UDP
 are left out, and counted on standard error. A file that is broken or of another kind is told with the
@@ -20,6 +22,8 @@ import struct
 import sys
 import tempfile
 from collections import Counter
+
+from announced import summary
 
 LONGEST = 65507
 VLAN_TAGS = (0x8100, 0x88A8, 0x9100)
@@ -245,6 +249,7 @@ def arguments():
     parser.add_argument("--source", type=ipaddress.ip_address, action="append", default=[], help="take datagrams from this address alone (may stand more than once)")
     parser.add_argument("--plan", help="put this file in front")
     parser.add_argument("--output", help="write to this file in place of standard output")
+    parser.add_argument("--summary", action="store_true", help="print what discovery announces, and a plan that would list it")
     parser.add_argument("pcap", metavar="PCAP")
     return parser.parse_args()
 
@@ -258,6 +263,10 @@ def main():
         if given.plan:
             with open(given.plan, "rb") as file:
                 plan = file.read()
+        if given.summary:
+            found = (datagram(link, packet, is_cut) for _, link, packet, is_cut in packets(data))
+            sys.stdout.write(summary(one[2] for one in found if not isinstance(one, str)))
+            return 0
         records, counts = convert(data, given.port, given.source)
         if given.output:
             write_whole(given.output, plan + records)

@@ -11,6 +11,7 @@ TOP = os.path.dirname(os.path.dirname(os.path.dirname(os.path.abspath(__file__))
 CAPTURES = os.environ.get("CAPTURES", os.path.join(os.path.dirname(TOP), "shared", "captures"))
 sys.path.insert(0, os.path.join(TOP, "tools"))
 
+import announced  # noqa: E402
 import capture_from_hex  # noqa: E402
 import pcap_to_capture  # noqa: E402
 
@@ -120,6 +121,48 @@ class FromPcap(unittest.TestCase):
             if os.path.exists(path):
                 with open(path, "rb") as file, open(path[:-4] + "bin", "rb") as want:
                     self.gives(file.read(), want.read())
+
+
+def parameter(name, value):
+    return struct.pack("<HH", name, len(value)) + value
+
+
+def announcement(writer, *parameters):
+    """A message of one DATA of a discovery writer."""
+    payload = b"\0\3\0\0" + b"".join(parameters) + parameter(1, b"")
+    body = struct.pack("<HH", 0, 16) + bytes(4) + writer + struct.pack("<II", 0, 1) + payload
+    return b"RTPS\2\5\0\0" + b"\xa1" * 12 + b"\x15\5" + struct.pack("<H", len(body)) + body
+
+
+class Announced(unittest.TestCase):
+    def test_a_writer_and_a_reader(self):
+        guid = b"\xa1" * 12 + b"\0\0\1\2"
+        name = struct.pack("<I", 2) + b"T\0\0\0"
+        found = [
+            announcement(announced.PARTICIPANTS, parameter(0x50, b"\xa1" * 12 + b"\0\0\1\xc1")),
+            announcement(announced.WRITERS, parameter(5, name), parameter(0x1D, struct.pack("<I", 3)), parameter(0x5A, guid)),
+            announcement(announced.READERS, parameter(5, name), parameter(0x1D, struct.pack("<I", 2)), parameter(0x5A, guid[:15] + b"\7")),
+            b"no message",
+        ]
+        participants, writers, readers = announced.announced(found)
+        self.assertEqual(participants, {"a1" * 12: ""})
+        self.assertEqual(announced.plan_of(writers, readers)[0], f"prefix {'00' * 8}\ntopic T persistent hash 1 - - - - 0\nwriter {guid.hex()} T -\nreader {guid.hex()[:-2]}07 T transient\nend\n")
+
+    def test_a_name_that_no_plan_can_have(self):
+        plan, notes = announced.plan_of([("aa" * 16, "a b", "", "transient")], [])
+        self.assertEqual(plan, f"prefix {'00' * 8}\nend\n")
+        self.assertIn("`a b`", notes[0])
+
+    @unittest.skipUnless(os.path.isdir(CAPTURES), "no captures of real traffic")
+    def test_real_traffic(self):
+        for name in sorted(os.listdir(CAPTURES)):
+            folder = os.path.join(CAPTURES, name)
+            if os.path.exists(os.path.join(folder, "capture.pcap")):
+                with open(os.path.join(folder, "capture.pcap"), "rb") as file:
+                    records = [pcap_to_capture.datagram(link, packet, cut) for _, link, packet, cut in pcap_to_capture.packets(file.read())]
+                with open(os.path.join(folder, "plan.txt"), encoding="ascii") as plan:
+                    declared = {line.split()[1] for line in plan if line.startswith("writer ")}
+                self.assertEqual({writer[0] for writer in announced.announced(one[2] for one in records)[1]}, declared)
 
 
 class FromHex(unittest.TestCase):
