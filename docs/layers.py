@@ -1,0 +1,64 @@
+#!/usr/bin/env python3
+"""Draws layers.svg: the crates as layers, and the way of a datagram through them."""
+import os
+
+LAYERS = [
+    ("program", [("durability", "command line, listing")]),
+    ("histories", [("dur_store", "history of a topic")]),
+    ("streams", [("dur_capture", "records of a capture"), ("dur_qos", "plan text"), ("rel_reader", "known numbers")]),
+    ("wire", [("rtps_submsg", "submessages"), ("rtps_params", "parameter lists")]),
+    ("threads", [("dur_turn", "one call at a time")]),
+    ("below all", [("dur_outside", "files, sockets, streams"), ("dur_base", "values, octets")]),
+]
+WIDTH, LEFT, BOX, TALL, GAP, ROW = 740, 130, 178, 44, 18, 70
+WAY = "#b3541e"
+
+
+def places():
+    """The upper left corner of each crate's box."""
+    return {
+        name: (LEFT + column * (BOX + GAP), 23 + row * ROW)
+        for row, (_, crates) in enumerate(LAYERS)
+        for column, (name, _) in enumerate(crates)
+    }
+
+
+def layer(row, name, crates, at):
+    """One layer with its crates."""
+    yield f'<rect x="8" y="{15 + row * ROW}" width="{WIDTH - 16}" height="{TALL + 16}" rx="6" fill="#f3f5f7"/>'
+    yield f'<text x="20" y="{49 + row * ROW}" fill="#55606b">{name}</text>'
+    for crate, what in crates:
+        x, y = at[crate]
+        yield f'<rect x="{x}" y="{y}" width="{BOX}" height="{TALL}" rx="5" fill="#ffffff" stroke="#3b6ea5"/>'
+        yield f'<text x="{x + BOX // 2}" y="{y + 18}" text-anchor="middle" fill="#1d2b3a" font-weight="bold">{crate}</text>'
+        yield f'<text x="{x + BOX // 2}" y="{y + 35}" text-anchor="middle" fill="#55606b" font-size="11">{what}</text>'
+
+
+def way(at):
+    """The way of a datagram: outside, capture, submessage, store, program."""
+    outside, capture, message, store, program = (at[name] for name in ("dur_outside", "dur_capture", "rtps_submsg", "dur_store", "durability"))
+    middle, right = TALL // 2, LEFT + BOX
+    yield f"M{LEFT} {outside[1] + middle} C{LEFT - 26} {outside[1] + middle} {LEFT - 26} {capture[1] + middle} {LEFT} {capture[1] + middle}"
+    yield f"M{LEFT + BOX // 2} {capture[1] + TALL} L{LEFT + BOX // 2} {message[1]}"
+    yield f"M{right} {message[1] + middle} C{right + 14} {message[1] + middle} {right + 14} {store[1] + middle} {right} {store[1] + middle}"
+    yield f"M{LEFT + BOX // 2} {store[1]} L{LEFT + BOX // 2} {program[1] + TALL}"
+
+
+def drawing():
+    at, height = places(), len(LAYERS) * ROW + 22
+    yield f'<svg xmlns="http://www.w3.org/2000/svg" viewBox="0 0 {WIDTH} {height}" font-family="sans-serif" font-size="13">'
+    yield "<title>The crates as layers, and the way of a datagram through them</title>"
+    yield f'<defs><marker id="tip" viewBox="0 0 8 8" refX="7" refY="4" markerWidth="7" markerHeight="7" orient="auto"><path d="M0 0L8 4L0 8z" fill="{WAY}"/></marker></defs>'
+    yield f'<rect width="{WIDTH}" height="{height}" fill="#ffffff"/>'
+    for row, (name, crates) in enumerate(LAYERS):
+        yield from layer(row, name, crates, at)
+    for line in way(at):
+        yield f'<path d="{line}" fill="none" stroke="{WAY}" stroke-width="1.6" marker-end="url(#tip)"/>'
+    for row, words in enumerate(("the way of a datagram:", "octets, record, DATA, entry, line")):
+        yield f'<text x="{LEFT + BOX + 40}" y="{42 + row * 16}" fill="{WAY}" font-size="12">{words}</text>'
+    yield "</svg>"
+
+
+if __name__ == "__main__":
+    with open(os.path.join(os.path.dirname(os.path.abspath(__file__)), "layers.svg"), "w", encoding="ascii") as out:
+        out.write("\n".join(drawing()) + "\n")
