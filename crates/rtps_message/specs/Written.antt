@@ -1,7 +1,8 @@
 -- The messages that the service writes.
-use Rattle.std.specs.Prelude.{◌≡◌, ℕ, ◌+◌, Bool, true, false, List, [], ◌∷◌, ◌++◌, length, take, drop, Option, Some, None, if◌then◌else◌}
+use Rattle.std.specs.Prelude.{◌≡◌, ◌⊎◌, ℕ, ◌+◌, Bool, true, false, List, [], ◌∷◌, ◌++◌, length, take, drop, Option, Some, None, if◌then◌else◌}
 use Rattle.std.specs.List.{flat_map}
 use Rattle.dur_base.specs.NumberSets.{NumberSet}
+use Rattle.dur_base.specs.declared.fact.Fact.{Fact}
 use Rattle.dur_base.specs.declared.sample.Act.{Act}
 use Rattle.dur_base.specs.declared.sample.Act.TheVariants.{Write, Dispose, Unregister, DisposeUnregister, Marker}
 use Rattle.dur_base.specs.declared.sample.Form.TheVariants as forms
@@ -11,7 +12,12 @@ use Rattle.rtps_params.specs.declared.inline.Inline.{Inline}
 use Rattle.rtps_submsg.specs.declared.sub.DataSub.{DataSub}
 use Rattle.rtps_submsg.specs.declared.sub.Sub.{Sub}
 use Rattle.rtps_submsg.specs.declared.sub.Sub.TheVariants.{InfoTs, InfoDst, Data, Heartbeat, AckNack}
-use Rattle.rtps_submsg.specs.Writing.{sub_text}
+use Rattle.rtps_submsg.specs.Writing.{sub_text, IsInRange}
+use Rattle.rtps_submsg.specs.Subs.{SubSpells}
+use Rattle.rtps_message.specs.declared.heard.Heard.{Heard}
+use Rattle.rtps_message.specs.declared.heard.End.TheVariants.{Whole}
+use Rattle.rtps_message.specs.Facts.{everybody}
+use Rattle.rtps_message.specs.Messages.{Hears}
 
 -- "RTPS", version 2.5, vendor 0000, and the prefix
 abbrev pub opening : List ℕ → List ℕ
@@ -80,3 +86,17 @@ marker_subs to d = InfoDst (take 12 to) ∷ Data d ∷ []
 pub record IsWritten (old new : List ℕ) (prefix : List ℕ) (subs : List Sub) (n : ℕ) : Type 0 where
   pub len : n ≡ length (message prefix subs)
   pub text : new ≡ message prefix subs ++ drop n old
+
+-- ---- what is written reads again as itself
+
+-- a submessage in the ranges of the table reads again, whatever follows
+abbrev pub ReadsBack : Sub → Type 0
+ReadsBack s = IsInRange s → (rest : List ℕ) → SubSpells (sub_text true s ++ rest) s (length (sub_text true s))
+
+-- the destination is this participant, or everybody
+abbrev pub IsAddressed : List ℕ → List ℕ → Type 0
+IsAddressed own to = (take 12 to ≡ own) ⊎ (take 12 to ≡ everybody)
+
+-- the addressee hears this one fact, and no more
+abbrev pub TellsOne : List ℕ → List ℕ → Fact → Type 0
+TellsOne to bytes fact = (own : List ℕ) → IsAddressed own to → Hears own bytes (record { facts = fact ∷ []; end = Whole })

@@ -7,7 +7,9 @@ mod heard;
 mod hearing;
 mod key;
 mod sample;
+mod writing;
 
 pub use heard::{End, Heard};
 pub use hearing::{facts, facts_of};
 pub use sample::sample_of;
+pub use writing::{write_acknack, write_heartbeat};
