@@ -87,6 +87,26 @@ pub record IsWritten (old new : List ℕ) (prefix : List ℕ) (subs : List Sub) 
   pub len : n ≡ length (message prefix subs)
   pub text : new ≡ message prefix subs ++ drop n old
 
+-- the act of a change
+abbrev pub IsChange : Act → Type 0
+IsChange Write = Unit {0}
+IsChange Dispose = Unit {0}
+IsChange DisposeUnregister = Unit {0}
+IsChange Unregister = ⊥
+IsChange Marker = ⊥
+
+-- a DATA of that sample is written
+pub record WritesSample (old new from to writer : List ℕ) (number : ℕ) (s : Sample) (keyed : Bool) (n : ℕ) : Type 0 where
+  pub d : DataSub
+  pub is : IsSampleData to writer number s keyed d
+  pub written : IsWritten old new from (sample_subs to s.stamp d) n
+
+-- a marker is written
+pub record WritesMarker (old new from to writer : List ℕ) (number : ℕ) (n : ℕ) : Type 0 where
+  pub d : DataSub
+  pub is : IsMarkerData to writer number d
+  pub written : IsWritten old new from (marker_subs to d) n
+
 -- ---- what is written reads again as itself
 
 -- a submessage in the ranges of the table reads again, whatever follows

@@ -12,4 +12,4 @@ mod writing;
 pub use heard::{End, Heard};
 pub use hearing::{facts, facts_of};
 pub use sample::sample_of;
-pub use writing::{write_acknack, write_heartbeat};
+pub use writing::{write_acknack, write_data, write_heartbeat, write_marker};
