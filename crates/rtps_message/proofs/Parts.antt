@@ -12,7 +12,7 @@ use Rattle.dur_base.specs.declared.sample.Form.TheVariants as forms
 use Rattle.rtps_params.specs.declared.inline.Inline.{Inline}
 use Rattle.rtps_submsg.specs.declared.sub.DataSub.{DataSub}
 use Rattle.rtps_submsg.specs.declared.sub.Sub.{Sub}
-use Rattle.rtps_submsg.specs.declared.sub.Sub.TheVariants.{Data}
+use Rattle.rtps_submsg.specs.declared.sub.Sub.TheVariants.{Pad, InfoTs, InfoDst, InfoSrc, Data, Heartbeat, AckNack, Gap, Other}
 use Rattle.rtps_submsg.specs.declared.sub.SubKind.{SubKind}
 use Rattle.rtps_submsg.specs.declared.sub.SubKind.TheVariants.{Cut, BothDataAndKey, BadNumber, BadSet, BadRange, List as InList, BadOffset}
 use Rattle.rtps_submsg.specs.Grammar.{Row, ends, field, Spells}
@@ -48,12 +48,16 @@ end_at xs ys e =
 
 -- ---- no row but DATA's has a payload
 
+abbrev pub IsPlain : Sub → Type 0
+IsPlain (Data d) = ⊥
+IsPlain _ = Unit {0}
+
 abbrev HasNone : Row Sub → Type 0
-HasNone (ends v) = payload_text v ≡ []
+HasNone (ends v) = IsPlain v
 HasNone (field width rule next) = (text : List ℕ) → HasNone (next text)
 
-none_told : (row : Row Sub) (body : List ℕ) (s : Sub) → HasNone row → Spells row body s → payload_text s ≡ []
-none_told (ends v) body s none x = ap payload_text x ∙ none
+none_told : (row : Row Sub) (body : List ℕ) (s : Sub) → HasNone row → Spells row body s → IsPlain s
+none_told (ends v) body s none x = subst IsPlain (sym x) none
 none_told (field width rule next) body s none x = none_told (next x.0) x.1 s (none x.0) x.5
 
 words_none : (n : ℕ) (next : List ℕ → Row Sub) → ((text : List ℕ) → HasNone (next text)) → HasNone (words_row n next)
@@ -65,27 +69,41 @@ if_none true x y a b = a
 if_none false x y a b = b
 
 acknack_none : (little : Bool) (flags : ℕ) → HasNone (acknack_row little flags)
-acknack_none little flags = λ reader writer base bits. words_none ((number little w32 bits + 31) / 32) _ (λ words count. refl)
+acknack_none little flags = λ reader writer base bits. words_none ((number little w32 bits + 31) / 32) _ (λ words count. tt)
 
 gap_none : (little : Bool) → HasNone (gap_row little)
-gap_none little = λ reader writer first base bits. words_none ((number little w32 bits + 31) / 32) _ (λ words. refl)
+gap_none little = λ reader writer first base bits. words_none ((number little w32 bits + 31) / 32) _ (λ words. tt)
 
 info_ts_none : (little : Bool) (flags : ℕ) → HasNone (info_ts_row little flags)
-info_ts_none little flags = if_none (has flags 0x02) _ _ refl (λ seconds fraction. refl)
+info_ts_none little flags = if_none (has flags 0x02) _ _ tt (λ seconds fraction. tt)
 
 row_none : (little : Bool) (flags id : ℕ) → HasNone (row_of little flags id)
 row_none little flags id =
-    if_none (eqb id 0x01) _ _ refl (
+    if_none (eqb id 0x01) _ _ tt (
     if_none (eqb id 0x06) _ _ (acknack_none little flags) (
-    if_none (eqb id 0x07) _ _ (λ reader writer first last count. refl) (
+    if_none (eqb id 0x07) _ _ (λ reader writer first last count. tt) (
     if_none (eqb id 0x08) _ _ (gap_none little) (
     if_none (eqb id 0x09) _ _ (info_ts_none little flags) (
-    if_none (eqb id 0x0c) _ _ (λ unused version vendor prefix. refl) (if_none (eqb id 0x0e) _ _ (λ prefix. refl) refl)
+    if_none (eqb id 0x0c) _ _ (λ unused version vendor prefix. tt) (if_none (eqb id 0x0e) _ _ (λ prefix. tt) tt)
     )
     )
     )
     )
     )
+
+pub plain_told : (little : Bool) (flags id : ℕ) (body : List ℕ) (s : Sub) → Spells (row_of little flags id) body s → IsPlain s
+plain_told little flags id body s x = none_told (row_of little flags id) body s (row_none little flags id) x
+
+plain_none : (s : Sub) → IsPlain s → payload_text s ≡ []
+plain_none Pad plain = refl
+plain_none (InfoTs ticks) plain = refl
+plain_none (InfoDst prefix) plain = refl
+plain_none (InfoSrc prefix) plain = refl
+plain_none (Data d) plain = absurd plain
+plain_none (Heartbeat reader writer first last count f l) plain = refl
+plain_none (AckNack reader writer set count f) plain = refl
+plain_none (Gap reader writer first set) plain = refl
+plain_none (Other id) plain = refl
 
 -- ---- the payload of a DATA is the end of its body
 
@@ -98,16 +116,19 @@ inline_ends : (there little : Bool) (behind body rest : List ℕ) (i : Inline) �
 inline_ends true little behind body rest i e x = subst (λ (t : List ℕ). IsEnd t body) (sym x.2) (end_of_end x.0 behind body e)
 inline_ends false little behind body rest i e x = subst (λ (t : List ℕ). IsEnd t body) (sym x.1) e
 
+pub behind_ends : (little : Bool) (flags : ℕ) (body : List ℕ) (d : DataSub) (x : DataSpells little flags body d) → x.behind ≡ drop (number little w16 x.head.5.0) (drop 4 body)
+behind_ends little flags body d x = ap (λ (h : Head). h.behind) x.head.5.5.5.5.5
+
 data_ends : (little : Bool) (flags : ℕ) (body : List ℕ) (d : DataSub) → DataSpells little flags body d → IsEnd d.payload.now body
 data_ends little flags body d x =
     let offset = x.head.5.0 in
-    let told : x.behind ≡ drop (number little w16 offset) (drop 4 body) = ap (λ (h : Head). h.behind) x.head.5.5.5.5.5 in
+    let told = behind_ends little flags body d x in
     let behind : IsEnd x.behind body = record { from = 4 + number little w16 offset; is = told ∙ drop-drop (number little w16 offset) 4 body } in
     subst (λ (t : List ℕ). IsEnd t body) (sym x.payload) (payload_ends (form_of flags) x.rest body (inline_ends (has flags 0x02) little x.behind body x.rest d.inline behind x.inline))
 
 body_ends : (is_data : Bool) (f : Framed) (s : Sub) → SpellsBy is_data f s → IsEnd (payload_text s) f.body
 body_ends true f s x = subst (λ (t : List ℕ). IsEnd t f.body) (sym (ap payload_text x.2)) (data_ends (has f.flags 0x01) f.flags f.body x.0 x.1)
-body_ends false f s x = subst (λ (t : List ℕ). IsEnd t f.body) (sym (none_told _ f.body s (row_none (has f.flags 0x01) f.flags f.id) x)) (no_end f.body)
+body_ends false f s x = subst (λ (t : List ℕ). IsEnd t f.body) (sym (plain_none s (plain_told (has f.flags 0x01) f.flags f.id f.body s x))) (no_end f.body)
 
 -- ---- in the datagram
 

@@ -32,6 +32,7 @@ fn hear_from(
 ) -> Result<Heard, OutOfMemory>
     requires { 20 ≤ length datagram.now }
     ensures says { IfOk result (λ h. Says own datagram.now start h) }
+    ensures good { IfOk result (λ h. AreGood h.facts) }
 {
     let bytes = datagram.as_slice();
     let mut context = start;
@@ -59,10 +60,10 @@ fn hear_from(
     })
 }
 
-/// The facts of a datagram that is shared already: the payloads that they tell are parts of it, and no octet
-/// is copied. It answers as `facts` does.
-pub fn facts_of(alloc: Global, datagram: &Payload, own: Prefix) -> Result<Heard, OutOfMemory>
+/// The facts of a datagram.
+fn hear_all(alloc: Global, datagram: &Payload, own: Prefix) -> Result<Heard, OutOfMemory>
     ensures heard { IfOk result (λ h. Hears own datagram.now h) }
+    ensures good { IfOk result (λ h. AreGood h.facts) }
 {
     match begin(datagram.as_slice()) {
         Some(start) => hear_from(alloc, datagram, own, start),
@@ -73,11 +74,24 @@ pub fn facts_of(alloc: Global, datagram: &Payload, own: Prefix) -> Result<Heard,
     }
 }
 
+/// The facts of a datagram that is shared already: the payloads that they tell are parts of it, and no octet
+/// is copied. It answers as `facts` does.
+pub fn facts_of(alloc: Global, datagram: &Payload, own: Prefix) -> Result<Heard, OutOfMemory>
+    ensures heard { IfOk result (λ h. Hears own datagram.now h) }
+    ensures only { IfOk result (λ h. (other : Heard) → Hears own datagram.now other → h ≡ other) }
+    ensures good { IfOk result (λ h. AreGood h.facts) }
+{
+    hear_all(alloc, datagram, own)
+}
+
 /// The facts of a message, and how it ends. Its octets are copied once, and the payloads that it tells share
 /// the copy. `own` is the prefix of this participant: what is for others is not told. Every octets have an
 /// answer; `OutOfMemory` is want of memory alone (DDSI-RTPS 8.3.3, 8.3.4).
 pub fn facts(alloc: Global, bytes: &[u8], own: Prefix) -> Result<Heard, OutOfMemory>
     ensures heard { IfOk result (λ h. Hears own bytes.now h) }
+    // The octets tell nothing else.
+    ensures only { IfOk result (λ h. (other : Heard) → Hears own bytes.now other → h ≡ other) }
+    ensures good { IfOk result (λ h. AreGood h.facts) }
 {
     match Bytes::copy_from_slice(alloc, bytes) {
         Ok(copy) => facts_of(alloc, &Payload::of(copy), own),

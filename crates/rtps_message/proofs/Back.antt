@@ -1,0 +1,2 @@
+-- A message says one thing.
+use Rattle.std.proofs.Common.{◌≡◌}
