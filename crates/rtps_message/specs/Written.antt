@@ -7,6 +7,7 @@ use Rattle.dur_base.specs.declared.sample.Act.{Act}
 use Rattle.dur_base.specs.declared.sample.Act.TheVariants.{Write, Dispose, Unregister, DisposeUnregister, Marker}
 use Rattle.dur_base.specs.declared.sample.Form.TheVariants as forms
 use Rattle.dur_base.specs.declared.sample.SetMark.TheVariants.{NoSet, End}
+use Rattle.dur_base.specs.declared.sample.Raw.{Raw}
 use Rattle.dur_base.specs.declared.sample.Sample.{Sample}
 use Rattle.rtps_params.specs.declared.inline.Inline.{Inline}
 use Rattle.rtps_submsg.specs.declared.sub.DataSub.{DataSub}
@@ -120,3 +121,20 @@ IsAddressed own to = (take 12 to ≡ own) ⊎ (take 12 to ≡ everybody)
 -- the addressee hears this one fact, and no more
 abbrev pub TellsOne : List ℕ → List ℕ → Fact → Type 0
 TellsOne to bytes fact = (own : List ℕ) → IsAddressed own to → Hears own bytes (record { facts = fact ∷ []; end = Whole })
+
+-- what the DATA of a change is read as
+abbrev pub sample_raw : Sample → Bool → Raw
+sample_raw s keyed = record {
+  hash = if keyed then Some s.key else None;
+  status = status_of s.act;
+  stamp = Some s.stamp;
+  lifespan = s.lifespan;
+  set = NoSet;
+  original = s.original;
+  form = s.form;
+  payload = s.payload;
+}
+
+-- what a marker is read as
+abbrev pub marker_raw : Raw
+marker_raw = record { hash = None; status = 0; stamp = None; lifespan = None; set = End; original = None; form = forms.Nothing; payload = [] }

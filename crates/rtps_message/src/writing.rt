@@ -1,12 +1,13 @@
 //! The messages that the service writes: a header, and little-endian submessages (DDSI-RTPS 8.3.3, 9.4).
 
-ghost use Rattle.std.specs.Prelude.{◌≡◌, ◌≤◌, ◌+◌, ◌≢◌, ◌++◌, length, take, drop, IsSome, IsFalse, None, true};
+ghost use Rattle.std.specs.Prelude.{◌≡◌, ◌≤◌, ◌+◌, ◌-◌, ◌^◌, ◌++◌, length, take, drop, IsSome, IsFalse, true, false};
 ghost use Rattle.std.specs.List.{AllByRecursion};
 ghost use Rattle.dur_base.specs.Goodness.{IsGood, zero_key};
 ghost use Rattle.rtps_params.specs.Writing.{IsWholeKey, IsWholeOriginal};
 ghost use Rattle.rtps_submsg.specs.Writing.{HasText, sub_text};
 ghost use Rattle.rtps_submsg.specs.declared.sub.DataSub.{DataSub};
-ghost use Rattle.rtps_message.specs.Written.{opening, message, acknack_subs, heartbeat_subs, status_of, sample_list, IsSampleData, IsMarkerData, IsChange, WritesSample, WritesMarker, IsWritten, ReadsBack};
+ghost use Rattle.rtps_message.specs.Written.{opening, message, acknack_subs, heartbeat_subs, status_of, sample_list, IsSampleData, IsMarkerData, IsChange, WritesSample, WritesMarker, IsWritten, ReadsBack, TellsOne, sample_raw, marker_raw};
+ghost use Rattle.dur_base.specs.declared.fact.Fact.TheVariants.{Data, Beat, Nack};
 
 use dur_base::{Act, Bits, EntityId, Form, Guid, Key, Number, Prefix, Sample, SetMark};
 use rtps_params::Inline;
@@ -113,6 +114,8 @@ pub fn write_heartbeat(
 ) -> usize
     requires { 65507 ≤ length out.old }
     ensures written { IsWritten out.old out.new from (heartbeat_subs to writer last count) result }
+    // Whom it is for hears this alone.
+    ensures back { TellsOne to (take result out.new) (Beat (from ++ writer) (drop 12 to) 1 last false) }
 {
     prefix_size(from);
     guid_size(to);
@@ -144,6 +147,8 @@ pub fn write_acknack(
 ) -> usize
     requires { 65507 ≤ length out.old }
     ensures written { IsWritten out.old out.new (take 12 from) (acknack_subs from to set.now is_final count) result }
+    // Whom it is for hears this alone.
+    ensures back { TellsOne to (take result out.new) (Nack from (drop 12 to) set.now is_final) }
 {
     guid_size(from);
     guid_size(to);
@@ -244,6 +249,8 @@ pub fn write_data(
     requires original { IsSome sample.now.original }
     requires key { IsFalse keyed → sample.now.key ≡ zero_key }
     ensures written { WritesSample out.old out.new from to writer number sample.now keyed result }
+    // Whom it is for hears this alone, where the number is one of a sample.
+    ensures back { number ≤ 2 ^ 63 - 2 → TellsOne to (take result out.new) (Data (from ++ writer) (drop 12 to) number (sample_raw sample.now keyed)) }
 {
     prefix_size(from);
     guid_size(to);
@@ -269,6 +276,8 @@ pub fn write_marker(
 ) -> usize
     requires { 65507 ≤ length out.old }
     ensures written { WritesMarker out.old out.new from to writer number result }
+    // Whom it is for hears this alone, where the number is one of a sample.
+    ensures back { number ≤ 2 ^ 63 - 2 → TellsOne to (take result out.new) (Data (from ++ writer) (drop 12 to) number marker_raw) }
 {
     prefix_size(from);
     guid_size(to);

@@ -1,4 +1,5 @@
 use Rattle.std.proofs.Common.{arith, ◌≡◌, ◌∙◌, ap, length}
+use Rattle.rtps_message.proofs.Back.{marker_back}
 use Rattle.rtps_message.proofs.Places.{marker_fits}
 use Rattle.rtps_message.proofs.writing.write_marker.Goals as goal
 
@@ -15,5 +16,11 @@ write_message-requires-clause-room c =
     let fits = marker_fits c.args.from c.args.to c.marker_data.result c.prefix_size.ensures c.guid_size.ensures writer d.reader d.inline d.payload in
     rw c.prefix.ensures (omega (arith, fits.1, c.requires))
 
-pub returns : goal.returns
-returns c = record { written = record { d = c.marker_data.result; is = c.marker_data.ensures; written = rw (← c.prefix.ensures) c.write_message.ensures.written } }
+pub returns-clause-written : goal.returns-clause-written
+returns-clause-written c = record { d = c.marker_data.result; is = c.marker_data.ensures; written = rw (← c.prefix.ensures) c.write_message.ensures.written }
+
+pub returns-clause-back : goal.returns-clause-back
+returns-clause-back c small =
+    let back = rw c.prefix.ensures at c.write_message.ensures.back in
+    let written = rw c.prefix.ensures at c.write_message.ensures.written in
+    marker_back _ _ c.args.from c.args.to c.args.writer c.args.number _ c.marker_data.result c.prefix_size.ensures small c.marker_data.ensures written back
