@@ -13,3 +13,6 @@ pub use heard::{End, Heard};
 pub use hearing::{facts, facts_of};
 pub use sample::sample_of;
 pub use writing::{write_acknack, write_data, write_heartbeat, write_marker};
+
+#[cfg(test)]
+mod tests;
