@@ -4,3 +4,4 @@ pub mod Places
 pub mod Good
 pub mod Once
 pub mod Back
+pub mod Again

@@ -13,6 +13,7 @@ use Rattle.rtps_message.specs.declared.context.Context.{Context}
 
 -- ---- whom a submessage is from and for, and when
 
+-- the same octets
 abbrev pub same : List ℕ → List ℕ → Bool
 same [] [] = true
 same (x ∷ xs) (y ∷ ys) = (x == y) && same xs ys

@@ -2,3 +2,4 @@ pub mod Facts
 pub mod Messages
 pub mod Samples
 pub mod Written
+pub mod Sent

@@ -6,11 +6,13 @@ mod context;
 mod heard;
 mod hearing;
 mod key;
+mod laws;
 mod sample;
 mod writing;
 
 pub use heard::{End, Heard};
 pub use hearing::{facts, facts_of};
+pub use laws::{changes_read_again, markers_read_again};
 pub use sample::sample_of;
 pub use writing::{write_acknack, write_data, write_heartbeat, write_marker};
 

@@ -177,6 +177,8 @@ fn key_of(alloc: Global, shape: Shape, form: Form, payload: &[u8]) -> Option<(Ke
 
 #[test]
 fn keys(rt: HostRuntime) {
+    changes_read_again();
+    markers_read_again();
     let seven = Key([0, 0, 0, 7, 0, 0, 0, 0, 0, 0, 0, 0, 0, 0, 0, 0]);
     let red = Key([
         0xe5, 0xbe, 0x94, 0xcc, 0x34, 0x74, 0x11, 0x1a, 0x79, 0x94, 0xc7, 0xe8, 0x9e, 0x6b, 0xec,
