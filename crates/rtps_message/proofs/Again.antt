@@ -1,13 +1,12 @@
 -- A written change is read as the change that was sent.
-use Rattle.std.proofs.Common.{◌≡◌, ℕ, Bool, List, Option, Some, None, refl, sym, ap, ◌∙◌}
+use Rattle.std.proofs.Common.{◌≡◌, ℕ, List, Some, None, refl, sym, ap, ◌∙◌}
 use Rattle.std.specs.Prelude.{if◌then◌else◌}
-use Rattle.dur_base.specs.Goodness.{IsGood, IsAct, zero_key}
+use Rattle.dur_base.specs.Goodness.{IsAct, zero_key}
 use Rattle.dur_base.specs.declared.kinds.Shape.{Shape}
 use Rattle.dur_base.specs.declared.kinds.Shape.TheVariants as shapes
 use Rattle.dur_base.specs.declared.sample.Act.{Act}
 use Rattle.dur_base.specs.declared.sample.Act.TheVariants.{Write, Dispose, Unregister, DisposeUnregister, Marker}
 use Rattle.dur_base.specs.declared.sample.Form.{Form}
-use Rattle.dur_base.specs.declared.sample.Sample.{Sample}
 use Rattle.rtps_message.specs.Samples.{act_of_form, act_of, key_of, key_for, sample_with, sample_as}
 use Rattle.rtps_message.specs.Written.{IsChange, status_of, sample_raw}
 use Rattle.rtps_message.specs.Sent.{is_keyed, sent_act, ChangesReadAgain, MarkersReadAgain}

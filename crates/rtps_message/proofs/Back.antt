@@ -1,5 +1,5 @@
 -- What a written message tells.
-use Rattle.std.proofs.Common.{◌≡◌, ◌⊎◌, ℕ, ◌+◌, ◌-◌, ◌<◌, ◌≤◌, ◌^◌, ◌||◌, Bool, true, false, List, [], ◌∷◌, ◌++◌, length, take, drop, Option, Some, None, refl, sym, ap, subst, ◌∙◌, arith, inl, inr}
+use Rattle.std.proofs.Common.{◌≡◌, ℕ, ◌-◌, ◌<◌, ◌≤◌, ◌^◌, ◌||◌, Bool, true, false, List, [], ◌∷◌, ◌++◌, length, take, drop, None, refl, sym, ap, subst, ◌∙◌, arith, inl, inr}
 use Rattle.std.specs.List.{flat_map, AllByRecursion}
 use Rattle.std.proofs.lemmas.Bool.{eq-eqb, le-leb, or_left, or_right}
 use Rattle.std.proofs.lemmas.List.{take_at, drop_at, length-append, take-append-drop}
@@ -12,18 +12,17 @@ use Rattle.dur_base.specs.declared.sample.Act.TheVariants.{Write, Dispose, Unreg
 use Rattle.dur_base.specs.declared.sample.Form.{Form}
 use Rattle.dur_base.specs.declared.sample.Form.TheVariants as forms
 use Rattle.dur_base.specs.declared.sample.Sample.{Sample}
-use Rattle.rtps_params.specs.declared.inline.Inline.{Inline}
 use Rattle.rtps_params.specs.Writing.{IsWritable}
 use Rattle.rtps_submsg.specs.declared.sub.DataSub.{DataSub}
 use Rattle.rtps_submsg.specs.declared.sub.Sub.{Sub}
-use Rattle.rtps_submsg.specs.declared.sub.Sub.TheVariants.{InfoTs, InfoDst, Data, Heartbeat, AckNack}
+use Rattle.rtps_submsg.specs.declared.sub.Sub.TheVariants.{Data}
 use Rattle.rtps_submsg.specs.Writing.{sub_text, IsInRange, IsPayloadOf}
 use Rattle.rtps_message.specs.declared.context.Context.{Context}
 use Rattle.rtps_message.specs.declared.heard.Heard.{Heard}
 use Rattle.rtps_message.specs.declared.heard.End.TheVariants.{Whole}
-use Rattle.rtps_message.specs.Facts.{same, everybody, is_for, start, told, told_of, data_fact}
-use Rattle.rtps_message.specs.Messages.{HasHeader, Splits, Says, Hears}
-use Rattle.rtps_message.specs.Written.{opening, message, acknack_subs, heartbeat_subs, sample_list, marker_list, sample_subs, marker_subs, status_of, IsSampleData, IsMarkerData, IsWritten, ReadsBack, IsAddressed, TellsOne, sample_raw, marker_raw}
+use Rattle.rtps_message.specs.Facts.{same, everybody, told_of}
+use Rattle.rtps_message.specs.Messages.{Splits, Hears}
+use Rattle.rtps_message.specs.Written.{opening, message, acknack_subs, heartbeat_subs, sample_subs, marker_subs, status_of, IsSampleData, IsMarkerData, IsWritten, ReadsBack, IsAddressed, TellsOne, sample_raw, marker_raw}
 
 -- ---- the submessages of a message
 

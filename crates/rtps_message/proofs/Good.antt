@@ -1,34 +1,32 @@
 -- What is told is good: the values of an inline QoS lie in the ranges of a sample.
-use Rattle.std.proofs.Common.{◌≡◌, ℕ, ◌+◌, ◌-◌, ◌*◌, ◌^◌, ◌%◌, ◌<◌, ◌≤◌, Bool, true, false, eqb, leb, ltb, List, [], ◌∷◌, ◌++◌, length, take, drop, map, option_map, Option, Some, None, refl, sym, ap, subst, ◌∙◌, append_assoc, arith, inl, inr}
-use Rattle.std.specs.Prelude.{IfSome, ◌&&◌, bit_and, slice_index, if◌then◌else◌}
+use Rattle.std.proofs.Common.{◌≡◌, ℕ, ◌+◌, ◌-◌, ◌*◌, ◌^◌, ◌%◌, ◌<◌, ◌≤◌, Bool, true, false, eqb, leb, ltb, List, [], ◌∷◌, ◌++◌, length, take, drop, map, option_map, Option, Some, None, refl, sym, ap, subst, ◌∙◌, arith}
+use Rattle.std.specs.Prelude.{IfSome, ◌&&◌, bit_and, slice_index}
 use Rattle.std.specs.Option.{option_or, unwrap_or, option_to_list}
 use Rattle.std.specs.List.{AllByRecursion}
 use Rattle.std.specs.Int.{w16, w32}
 use Rattle.std.proofs.lemmas.Bool.{cond_both, leb-true, leb-false, eqb-false, and_parts}
-use Rattle.std.proofs.lemmas.List.{take_at, length-append}
+use Rattle.std.proofs.lemmas.List.{take_at}
 use Rattle.dur_base.specs.Fields.{number, octets, sequence}
 use Rattle.dur_base.specs.Goodness.{IsLifespan, IsMark, IsOriginal, IsPayload, IsGoodRaw}
 use Rattle.dur_base.proofs.OctetLists.{IsBytes, IsBytes-drop, IsBytes-take}
 use Rattle.dur_base.proofs.FieldNumbers.{below_32}
 use Rattle.dur_base.specs.declared.fact.Fact.{Fact}
-use Rattle.dur_base.specs.declared.fact.Fact.TheVariants as facts
 use Rattle.dur_base.specs.declared.sample.Form.{Form}
 use Rattle.dur_base.specs.declared.sample.Form.TheVariants as forms
-use Rattle.dur_base.specs.declared.sample.SetMark.{SetMark}
-use Rattle.dur_base.specs.declared.sample.SetMark.TheVariants.{NoSet, End, Of}
+use Rattle.dur_base.specs.declared.sample.SetMark.TheVariants.{NoSet, Of}
 use Rattle.rtps_params.specs.declared.inline.Inline.{Inline}
 use Rattle.rtps_params.specs.declared.parameter.Parameter.{Parameter}
 use Rattle.rtps_params.specs.declared.parameter.Parameter.TheVariants.{Hash, Status, Lifespan, Set, Original, Strange, Passed}
 use Rattle.rtps_params.specs.Table.{sample_number_of, lifespan_at, set_at, original_at, hash_at, status_at, parameter_at}
 use Rattle.rtps_params.specs.Lists.{Given, text, texts, IsGood, ListSpells}
 use Rattle.rtps_params.specs.Lists as lists
-use Rattle.rtps_params.specs.Meaning.{hash_in, status_in, lifespan_in, set_in, original_in, last_of, inline_of}
+use Rattle.rtps_params.specs.Meaning.{status_in, lifespan_in, set_in, original_in, last_of, inline_of}
 use Rattle.rtps_params.proofs.Loop.{rest_fits}
 use Rattle.rtps_submsg.specs.declared.sub.DataSub.{DataSub}
 use Rattle.rtps_submsg.specs.declared.sub.Sub.{Sub}
 use Rattle.rtps_submsg.specs.declared.sub.Sub.TheVariants.{Pad, InfoTs, InfoDst, InfoSrc, Data, Heartbeat, AckNack, Gap, Other}
 use Rattle.rtps_submsg.specs.Rows.{has}
-use Rattle.rtps_submsg.specs.Data.{Head, form_of, payload_of, InlineSpells, DataSpells}
+use Rattle.rtps_submsg.specs.Data.{form_of, payload_of, InlineSpells, DataSpells}
 use Rattle.rtps_submsg.specs.Headers.{Framed}
 use Rattle.rtps_submsg.specs.Subs.{SpellsBy, SubSpells}
 use Rattle.rtps_message.proofs.Parts.{IsPlain, plain_told, behind_ends}

@@ -1,11 +1,10 @@
 -- A message says one thing.
-use Rattle.std.proofs.Common.{◌≡◌, ◌⊎◌, ℕ, ◌+◌, ◌-◌, ◌<◌, List, [], ◌∷◌, ◌++◌, length, drop, Option, Result, Ok, Err, refl, sym, ap, subst, ◌∙◌, arith, inl, inr}
+use Rattle.std.proofs.Common.{◌≡◌, ℕ, ◌+◌, ◌-◌, ◌<◌, List, [], ◌∷◌, ◌++◌, length, drop, Option, Result, Ok, Err, refl, sym, ap, subst, ◌∙◌, arith, inl, inr}
 use Rattle.std.specs.Prelude.{IfOk}
 use Rattle.std.specs.Option.{option_to_list}
 use Rattle.dur_base.specs.declared.fact.Fact.{Fact}
 use Rattle.rtps_submsg.specs.declared.sub.DataSub.{DataSub}
 use Rattle.rtps_submsg.specs.declared.sub.Sub.{Sub}
-use Rattle.rtps_submsg.specs.declared.sub.Sub.TheVariants.{Data}
 use Rattle.rtps_submsg.specs.declared.sub.SubKind.{SubKind}
 use Rattle.rtps_submsg.specs.Subs.{SubSpells, SameData, SameSub}
 use Rattle.rtps_submsg.proofs.Unique.{sub_once, sub_never, sub_breaks}
@@ -14,7 +13,7 @@ use Rattle.rtps_message.specs.declared.heard.End.{End}
 use Rattle.rtps_message.specs.declared.heard.End.TheVariants.{Whole, BadHeader, Stopped}
 use Rattle.rtps_message.specs.declared.heard.Heard.{Heard}
 use Rattle.rtps_message.specs.Facts.{start, after, data_fact, told, told_of}
-use Rattle.rtps_message.specs.Messages.{Splits, StopsAt, Ends, Says, Hears}
+use Rattle.rtps_message.specs.Messages.{Splits, StopsAt, Ends, Hears}
 
 -- ---- a submessage is compared by what it tells
 

@@ -1,12 +1,12 @@
 -- Where a payload lies in a datagram, and a break.
-use Rattle.std.proofs.Common.{◌≡◌, ◌⊎◌, ℕ, zero, suc, ◌+◌, ◌-◌, ◌*◌, ◌/◌, ◌<◌, ◌≤◌, Bool, true, false, eqb, List, [], ◌∷◌, ◌++◌, length, take, drop, refl, sym, ap, subst, ◌∙◌, append_assoc, inl, inr, arith}
+use Rattle.std.proofs.Common.{◌≡◌, ℕ, zero, suc, ◌+◌, ◌-◌, ◌/◌, ◌≤◌, Bool, true, false, eqb, List, [], ◌∷◌, ◌++◌, length, take, drop, refl, sym, ap, subst, ◌∙◌, append_assoc, inl, inr, arith}
 use Rattle.std.proofs.lemmas.List.{take-append-drop, drop-drop, length-append, length-take, length-drop, drop_all}
 use Rattle.std.proofs.lemmas.Bool.{cases_lt}
-use Rattle.std.specs.Prelude.{slice_range, if◌then◌else◌}
+use Rattle.std.specs.Prelude.{if◌then◌else◌}
 use Rattle.std.specs.Int.{w16, w32}
 use Rattle.dur_base.proofs.FieldNumbers.{length_16}
 use Rattle.dur_base.proofs.Layouts.{next_field}
-use Rattle.dur_base.specs.Fields.{number, octets, sequence}
+use Rattle.dur_base.specs.Fields.{number, octets}
 use Rattle.dur_base.specs.declared.sample.Form.{Form}
 use Rattle.dur_base.specs.declared.sample.Form.TheVariants as forms
 use Rattle.rtps_params.specs.declared.inline.Inline.{Inline}

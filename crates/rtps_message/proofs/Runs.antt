@@ -1,5 +1,5 @@
 -- What the submessages that were read tell, and those that follow.
-use Rattle.std.proofs.Common.{◌≡◌, ◌⊎◌, ℕ, ◌+◌, ◌-◌, ◌<◌, ◌≤◌, Bool, true, false, List, [], ◌∷◌, ◌++◌, length, take, drop, refl, sym, ap, subst, ◌∙◌, append_assoc, append-nil, inl, inr, arith}
+use Rattle.std.proofs.Common.{◌≡◌, ℕ, ◌+◌, ◌-◌, ◌<◌, ◌≤◌, List, [], ◌∷◌, ◌++◌, length, drop, refl, sym, ap, subst, ◌∙◌, append_assoc, append-nil, arith}
 use Rattle.std.proofs.lemmas.List.{drop-drop, drop_all, length-drop}
 use Rattle.std.specs.Prelude.{Option}
 use Rattle.std.specs.Option.{option_to_list}
@@ -8,10 +8,9 @@ use Rattle.rtps_submsg.specs.declared.sub.Sub.{Sub}
 use Rattle.rtps_submsg.specs.declared.sub.SubKind.{SubKind}
 use Rattle.rtps_submsg.specs.Subs.{SubSpells, SubBreaks}
 use Rattle.rtps_message.specs.declared.context.Context.{Context}
-use Rattle.rtps_message.specs.declared.heard.Heard.{Heard}
-use Rattle.rtps_message.specs.declared.heard.End.TheVariants.{Whole, BadHeader, Stopped}
+use Rattle.rtps_message.specs.declared.heard.End.TheVariants.{Whole, Stopped}
 use Rattle.rtps_message.specs.Facts.{after, told, told_of}
-use Rattle.rtps_message.specs.Messages.{Splits, StopsAt, Says}
+use Rattle.rtps_message.specs.Messages.{Splits, Says}
 
 -- all submessages, where these are the ones that are left
 pub record Goes (own bytes : List ℕ) (begin : Context) (facts : List Fact) (c : Context) (subs : List Sub) (rest : List ℕ) : Type 0 where

@@ -8,7 +8,7 @@ use Rattle.dur_base.specs.declared.fact.Fact.TheVariants as facts
 use Rattle.dur_base.specs.declared.sample.Raw.{Raw}
 use Rattle.rtps_submsg.specs.declared.sub.DataSub.{DataSub}
 use Rattle.rtps_submsg.specs.declared.sub.Sub.{Sub}
-use Rattle.rtps_submsg.specs.declared.sub.Sub.TheVariants.{Pad, InfoTs, InfoDst, InfoSrc, Data, Heartbeat, AckNack, Gap, Other}
+use Rattle.rtps_submsg.specs.declared.sub.Sub.TheVariants.{InfoTs, InfoDst, InfoSrc, Data, Heartbeat, AckNack, Gap}
 use Rattle.rtps_message.specs.declared.context.Context.{Context}
 
 -- ---- whom a submessage is from and for, and when

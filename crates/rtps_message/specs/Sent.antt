@@ -1,10 +1,10 @@
 -- What the reader of a replay makes of the messages that it hears.
-use Rattle.std.specs.Prelude.{◌≡◌, ℕ, Bool, true, false, List, [], Some, None}
+use Rattle.std.specs.Prelude.{◌≡◌, ℕ, Bool, true, false, [], Some, None}
 use Rattle.dur_base.specs.Goodness.{IsGood, zero_key}
 use Rattle.dur_base.specs.declared.kinds.Shape.{Shape}
 use Rattle.dur_base.specs.declared.kinds.Shape.TheVariants as shapes
 use Rattle.dur_base.specs.declared.sample.Act.{Act}
-use Rattle.dur_base.specs.declared.sample.Act.TheVariants.{Write, Dispose, Unregister, DisposeUnregister, Marker}
+use Rattle.dur_base.specs.declared.sample.Act.TheVariants.{Dispose, DisposeUnregister, Marker}
 use Rattle.dur_base.specs.declared.sample.Form.TheVariants as forms
 use Rattle.dur_base.specs.declared.sample.SetMark.TheVariants.{NoSet, End}
 use Rattle.dur_base.specs.declared.sample.Sample.{Sample}

@@ -1,5 +1,5 @@
 -- The messages that the service writes.
-use Rattle.std.specs.Prelude.{◌≡◌, ◌⊎◌, ℕ, ◌+◌, Bool, true, false, List, [], ◌∷◌, ◌++◌, length, take, drop, Option, Some, None, if◌then◌else◌}
+use Rattle.std.specs.Prelude.{◌≡◌, ◌⊎◌, ℕ, Bool, true, false, List, [], ◌∷◌, ◌++◌, length, take, drop, Some, None, if◌then◌else◌}
 use Rattle.std.specs.List.{flat_map}
 use Rattle.dur_base.specs.NumberSets.{NumberSet}
 use Rattle.dur_base.specs.declared.fact.Fact.{Fact}
@@ -15,7 +15,6 @@ use Rattle.rtps_submsg.specs.declared.sub.Sub.{Sub}
 use Rattle.rtps_submsg.specs.declared.sub.Sub.TheVariants.{InfoTs, InfoDst, Data, Heartbeat, AckNack}
 use Rattle.rtps_submsg.specs.Writing.{sub_text, IsInRange}
 use Rattle.rtps_submsg.specs.Subs.{SubSpells}
-use Rattle.rtps_message.specs.declared.heard.Heard.{Heard}
 use Rattle.rtps_message.specs.declared.heard.End.TheVariants.{Whole}
 use Rattle.rtps_message.specs.Facts.{everybody}
 use Rattle.rtps_message.specs.Messages.{Hears}

@@ -1,6 +1,6 @@
-use Rattle.std.proofs.Common.{length, ◌-◌, ◌≡◌, ◌≤◌, drop, arith}
-use Rattle.rtps_submsg.specs.Subs.{SubSpells, SubBreaks}
-use Rattle.rtps_message.proofs.Parts.{part_before, break_within}
+use Rattle.std.proofs.Common.{drop, arith}
+use Rattle.rtps_submsg.specs.Subs.{SubSpells}
+use Rattle.rtps_message.proofs.Parts.{part_before}
 use Rattle.rtps_message.proofs.Good.{good_more}
 use Rattle.rtps_message.proofs.Runs.{begins, goes_on, ends_whole, stops}
 use Rattle.rtps_message.proofs.hearing.hear_from.Goals as goal

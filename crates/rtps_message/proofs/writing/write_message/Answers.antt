@@ -1,8 +1,8 @@
-use Rattle.std.proofs.Common.{◌≡◌, ◌++◌, ◌≤◌, length, drop, arith, subst, List, ℕ, take}
+use Rattle.std.proofs.Common.{arith, subst, List}
 use Rattle.std.proofs.lemmas.List.{take_all}
 use Rattle.std.specs.List.{AllByRecursion}
 use Rattle.rtps_submsg.specs.declared.sub.Sub.{Sub}
-use Rattle.rtps_message.specs.Written.{opening, message, IsWritten, ReadsBack}
+use Rattle.rtps_message.specs.Written.{IsWritten, ReadsBack}
 use Rattle.rtps_message.proofs.Places.{opened, one_more, room_for, all_more, opening_long}
 use Rattle.rtps_message.proofs.writing.write_message.Goals as goal
 
