@@ -1,0 +1,5 @@
+pub mod Facts
+pub mod Messages
+pub mod Samples
+pub mod Written
+pub mod Sent
