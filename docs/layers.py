@@ -6,7 +6,7 @@ LAYERS = [
     ("program", [("durability", "command line, listing")]),
     ("histories", [("dur_store", "history of a topic")]),
     ("streams", [("dur_capture", "records of a capture"), ("dur_qos", "plan text"), ("rel_reader", "known numbers")]),
-    ("wire", [("rtps_submsg", "submessages"), ("rtps_params", "parameter lists")]),
+    ("wire", [("rtps_submsg", "submessages"), ("rtps_params", "parameter lists"), ("rtps_message", "facts, keys, messages")]),
     ("threads", [("dur_turn", "one call at a time")]),
     ("below all", [("dur_outside", "files, sockets, streams"), ("dur_base", "values, octets")]),
 ]
