@@ -21,6 +21,10 @@ topic_place plan topics i = unwrap_or (option_and_then (λ t. place_of t.name to
 abbrev pub new_writer : Plan → List Topic → WriterLine → KeptWriter
 new_writer plan topics w = record { guid = w.guid; topic = topic_place plan topics w.topic; next = 1; held = [] }
 
+-- the line of a declared writer whose topic has the same place in the plan
+abbrev pub first_line : WriterLine → KeptWriter
+first_line w = record { guid = w.guid; topic = w.topic; next = 1; held = [] }
+
 -- the writers of the plan that a view lacks
 abbrev pub more_writers : Plan → List Topic → View → List KeptWriter
 more_writers plan topics v = map (new_writer plan topics) (filter (λ w. not (stands v w.guid)) plan.writers)

@@ -7,7 +7,7 @@ use dur_base::{List, OutOfMemory};
 use dur_qos::Topic;
 use std::alloc::Global;
 
-fn copy_topics(alloc: Global, topics: &[Topic]) -> Result<List<Topic>, OutOfMemory>
+pub fn copy_topics(alloc: Global, topics: &[Topic]) -> Result<List<Topic>, OutOfMemory>
     ensures { IfOk result (λ l. l ≡ topics.now) }
 {
     let mut copies = List::new(alloc);
