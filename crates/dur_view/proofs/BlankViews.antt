@@ -53,5 +53,5 @@ blank-is plan good =
     let topics = filter-all (λ (t : Topic). not (is_some (place_of t.name []))) (λ t. refl) plan.topics in
     let writers = filter-all (λ (w : WriterLine). not (stands nothing w.guid)) (λ w. refl) plan.writers in
     let lines : map (new_writer plan (filter (λ (t : Topic). not (is_some (place_of t.name []))) plan.topics)) (filter (λ (w : WriterLine). not (stands nothing w.guid)) plan.writers) ≡ map first_line plan.writers =
-      ap (λ l. map (new_writer plan l) (filter (λ (w : WriterLine). not (stands nothing w.guid)) plan.writers)) topics ∙ ap (λ l. map (new_writer plan plan.topics) l) writers ∙ lines-same plan plan.writers good.names good.writers in
+    ap (λ l. map (new_writer plan l) (filter (λ (w : WriterLine). not (stands nothing w.guid)) plan.writers)) topics ∙ ap (λ l. map (new_writer plan plan.topics) l) writers ∙ lines-same plan plan.writers good.names good.writers in
     cc

@@ -48,10 +48,10 @@ fate-is p now c l topic longest later expired displaced purged all set line long
     let quiet : l.quiet ≡ quiet_since p k = ap (λ (x : Line). x.quiet) line in
     let delays : delay p ≡ longest = ap (λ (t : Topic). t.delay * 2 ^ 32) set ∙ sym long in
     let deep : is_displaced p c ≡ displaced =
-      ap (λ (t : Topic). reaches t.depth (count p k - c.ordinal)) set ∙ ap (λ n. reaches topic.depth (n - c.ordinal)) (sym changes) ∙ ap (λ n. reaches topic.depth n) (sym more) ∙ sym d in
+    ap (λ (t : Topic). reaches t.depth (count p k - c.ordinal)) set ∙ ap (λ n. reaches topic.depth (n - c.ordinal)) (sym changes) ∙ ap (λ n. reaches topic.depth n) (sym more) ∙ sym d in
     let purge : is_purged_with p now c ≡ purged =
-      ap (λ n. nat_le c.ordinal n || is_long (quiet_since p k) (delay p) now) (sym gone) ∙ ap (λ o. nat_le c.ordinal l.purged || is_long o (delay p) now) (sym quiet)
-      ∙ ap (λ n. nat_le c.ordinal l.purged || is_long l.quiet n now) delays ∙ sym u in
+    ap (λ n. nat_le c.ordinal n || is_long (quiet_since p k) (delay p) now) (sym gone) ∙ ap (λ o. nat_le c.ordinal l.purged || is_long o (delay p) now) (sym quiet)
+    ∙ ap (λ n. nat_le c.ordinal l.purged || is_long l.quiet n now) delays ∙ sym u in
     whole ∙ sym (ap (λ b. is_expired now c || (b || is_purged_with p now c)) deep ∙ ap (λ b. is_expired now c || (displaced || b)) purge ∙ ap (λ b. b || (displaced || purged)) (sym e))
 
 map-append : {X Y : Type 0} (f : X → Y) (xs ys : List X) → map f (xs ++ ys) ≡ map f xs ++ map f ys

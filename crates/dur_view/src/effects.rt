@@ -33,7 +33,12 @@ fn opens(mark: SetMark, number: Number) -> bool
     }
 }
 
-fn with_sample(members: List<Held>, number: Number, moment: Ticks, sample: &Sample) -> Result<List<Held>, OutOfMemory>
+fn with_sample(
+    members: List<Held>,
+    number: Number,
+    moment: Ticks,
+    sample: &Sample,
+) -> Result<List<Held>, OutOfMemory>
     ensures { IfOk result (λ l. l ≡ members ++ record { number = number; moment = moment; sample = sample.now } ∷ []) }
 {
     let sample = sample.copy()?;
@@ -60,13 +65,23 @@ fn join(
         return with_sample(List::new(alloc), number, moment, sample);
     }
     if goes_on(sample.set, members) {
-        return with_sample(copy_held(alloc, members.as_slice())?, number, moment, sample);
+        return with_sample(
+            copy_held(alloc, members.as_slice())?,
+            number,
+            moment,
+            sample,
+        );
     }
     Ok(List::new(alloc))
 }
 
 // The members of the writer's open set after an entry.
-fn held_after(alloc: Global, entry: &Entry, writer: Guid, members: List<Held>) -> Result<List<Held>, OutOfMemory>
+fn held_after(
+    alloc: Global,
+    entry: &Entry,
+    writer: Guid,
+    members: List<Held>,
+) -> Result<List<Held>, OutOfMemory>
     ensures { IfOk result (λ l. l ≡ held_by entry.now writer members) }
 {
     match entry {
@@ -81,8 +96,16 @@ fn held_after(alloc: Global, entry: &Entry, writer: Guid, members: List<Held>) -
             }
             join(alloc, *number, *moment, sample, &members)
         }
-        Entry::Skip { writer: by, .. } => Ok(if *by == writer { List::new(alloc) } else { members }),
-        Entry::Lost { writer: by, .. } => Ok(if *by == writer { List::new(alloc) } else { members }),
+        Entry::Skip { writer: by, .. } => Ok(if *by == writer {
+            List::new(alloc)
+        } else {
+            members
+        }),
+        Entry::Lost { writer: by, .. } => Ok(if *by == writer {
+            List::new(alloc)
+        } else {
+            members
+        }),
     }
 }
 
@@ -107,7 +130,12 @@ fn first_held(alloc: Global, start: &View, writer: Guid) -> Result<List<Held>, O
 }
 
 // The members of the writer's open set after the entries.
-fn held_over(alloc: Global, start: &View, entries: &[Entry], writer: Guid) -> Result<List<Held>, OutOfMemory>
+fn held_over(
+    alloc: Global,
+    start: &View,
+    entries: &[Entry],
+    writer: Guid,
+) -> Result<List<Held>, OutOfMemory>
     ensures { IfOk result (λ l. l ≡ held (Start start.now +> entries.now) writer) }
 {
     let mut members = first_held(alloc, start, writer)?;
@@ -150,7 +178,13 @@ fn writer_of(entry: &Entry) -> Guid
 }
 
 // The members of a whole set take effect, in their order.
-fn add_members(events: &mut List<Event>, moment: Ticks, by: usize, writer: Guid, members: &[Held]) -> Result<(), OutOfMemory>
+fn add_members(
+    events: &mut List<Event>,
+    moment: Ticks,
+    by: usize,
+    writer: Guid,
+    members: &[Held],
+) -> Result<(), OutOfMemory>
     ensures { OnOk result (events.new ≡ events.old ++ map (λ x. Effect moment by writer x.number x.sample) members.now) }
 {
     for member in members {
@@ -184,7 +218,14 @@ fn add_closed(
 }
 
 // The sample itself takes effect where it has no mark, or the one that ends a set.
-fn add_itself(events: &mut List<Event>, moment: Ticks, by: usize, writer: Guid, number: Number, sample: &Sample) -> Result<(), OutOfMemory>
+fn add_itself(
+    events: &mut List<Event>,
+    moment: Ticks,
+    by: usize,
+    writer: Guid,
+    number: Number,
+    sample: &Sample,
+) -> Result<(), OutOfMemory>
     ensures { OnOk result (events.new ≡ events.old ++ itself moment by writer number sample.now sample.now.set) }
 {
     match sample.set {
@@ -203,7 +244,12 @@ fn add_itself(events: &mut List<Event>, moment: Ticks, by: usize, writer: Guid, 
 }
 
 // What an entry brings, over the members of its writer's open set.
-fn add_brought(events: &mut List<Event>, by: usize, members: &List<Held>, entry: &Entry) -> Result<(), OutOfMemory>
+fn add_brought(
+    events: &mut List<Event>,
+    by: usize,
+    members: &List<Held>,
+    entry: &Entry,
+) -> Result<(), OutOfMemory>
     ensures { OnOk result (events.new ≡ events.old ++ brings by members.now entry.now) }
 {
     match entry {
@@ -217,7 +263,10 @@ fn add_brought(events: &mut List<Event>, by: usize, members: &List<Held>, entry:
             add_itself(events, *moment, by, *writer, *number, sample)
         }
         Entry::Skip { .. } => Ok(()),
-        Entry::Lost { moment, .. } => events.push(Event::Gone { moment: *moment, by }),
+        Entry::Lost { moment, .. } => events.push(Event::Gone {
+            moment: *moment,
+            by,
+        }),
     }
 }
 

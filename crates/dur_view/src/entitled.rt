@@ -17,7 +17,10 @@ use std::alloc::Global;
 fn sent(change: &Placed) -> Result<Change, OutOfMemory>
     ensures { IfOk result (λ c. c ≡ change_of record { writer = change.now.writer; number = change.now.number; sample = change.now.sample.now }) }
 {
-    let (original, number) = change.sample.original.unwrap_or((change.writer, change.number));
+    let (original, number) = change
+        .sample
+        .original
+        .unwrap_or((change.writer, change.number));
     let mut sample = change.sample.copy()?;
     sample.original = Some((original, number));
     Ok(Change {
@@ -95,7 +98,13 @@ fn add_event(
     requires { topic < length start.now.topics }
     ensures { OnOk result (list.new ≡ list.old ++ sent_of (Begin (part start.now topic) ▹▹ events.now) now (made_by (Begin (part start.now topic) ▹▹ before.now) event.now)) }
 {
-    if let Event::Effect { writer, number, sample, .. } = event {
+    if let Event::Effect {
+        writer,
+        number,
+        sample,
+        ..
+    } = event
+    {
         if changes(sample.act) {
             let line = line_over(alloc, start, topic, before, sample.key)?;
             let change = Placed {
@@ -123,7 +132,16 @@ pub fn entitled_over(
 {
     let mut list = of_start(alloc, start, topic, events, now)?;
     for (at, event) in events.iter().enumerate() {
-        add_event(alloc, &mut list, start, topic, events, now, &events[..at], event)?;
+        add_event(
+            alloc,
+            &mut list,
+            start,
+            topic,
+            events,
+            now,
+            &events[..at],
+            event,
+        )?;
     }
     Ok(list)
 }

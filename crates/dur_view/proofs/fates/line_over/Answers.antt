@@ -17,8 +17,7 @@ loop-event-preserved c =
     let after = c.in_ok-line-2.ensures in
     let grows = changes-after event c.args.key longest c.loop-event.line in
     let counts = ap (λ (l : Line). l.changes) after in
-    let bound = c.loop-event.invariant.1 in
-    (
+    let bound = c.loop-event.invariant.1 in (
       after ∙ ap (λ (l : Line). line_after_event event c.args.key longest l) c.loop-event.invariant.0 ∙ sym (line-step before event c.args.key longest is) ∙ ap (λ p. line_in_past p c.args.key) (sym more),
       omega arith,
     )
