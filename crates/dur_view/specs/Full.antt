@@ -8,6 +8,7 @@ use Rattle.dur_qos.specs.Plan.{place_of}
 use Rattle.dur_view.specs.declared.data.KeptWriter.{KeptWriter}
 use Rattle.dur_view.specs.declared.data.View.{View}
 use Rattle.dur_view.specs.Words.{stands}
+use Rattle.dur_view.specs.History.{History, Start, ◌▸◌}
 
 -- the topics of the plan that a list of topics lacks, by their names, in the plan's order
 abbrev pub more_topics : Plan → List Topic → List Topic
@@ -47,3 +48,8 @@ nothing = record { last = 0; topics = []; writers = []; instances = []; kept = [
 -- blank(plan): all that the plan declares, and nothing handled.
 abbrev pub blank : Plan → View
 blank plan = full plan nothing
+
+-- full of a history: its entries over the full view of its start
+abbrev pub filled : Plan → History → History
+filled plan (Start v) = Start (full plan v)
+filled plan (h ▸ e) = filled plan h ▸ e
