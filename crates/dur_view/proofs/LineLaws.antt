@@ -54,7 +54,7 @@ fate-is p now c l topic longest later expired displaced purged all set line long
     ∙ ap (λ n. nat_le c.ordinal l.purged || is_long l.quiet n now) delays ∙ sym u in
     whole ∙ sym (ap (λ b. is_expired now c || (b || is_purged_with p now c)) deep ∙ ap (λ b. is_expired now c || (displaced || b)) purge ∙ ap (λ b. b || (displaced || purged)) (sym e))
 
-map-append : {X Y : Type 0} (f : X → Y) (xs ys : List X) → map f (xs ++ ys) ≡ map f xs ++ map f ys
+pub map-append : {X Y : Type 0} (f : X → Y) (xs ys : List X) → map f (xs ++ ys) ≡ map f xs ++ map f ys
 map-append f [] ys = refl
 map-append f (x ∷ xs) ys = ap (λ l. f x ∷ l) (map-append f xs ys)
 
