@@ -86,7 +86,7 @@ past-stays plan t (h ▸ e) follow lt =
     ap (λ p. p ▹▹ brings_to t (filled plan h) e) (past-stays plan t h follow.0 lt)
     ∙ ap (λ (l : List Event). past t h ▹▹ l) (brings-stays plan t h e follow.1.known)
 
-sound-of : (h : History) → IsHistory h → IsSound (start h)
+pub sound-of : (h : History) → IsHistory h → IsSound (start h)
 sound-of (Start v) sound = sound
 sound-of (h ▸ e) follow = sound-of h follow.0
 
