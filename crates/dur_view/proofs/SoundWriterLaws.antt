@@ -23,7 +23,7 @@ use Rattle.dur_view.proofs.SameEffects.{is_same-true}
 use Rattle.dur_view.proofs.Parts.{AllStand, all-stand}
 use Rattle.dur_view.proofs.FullViews.{sound-of}
 
-and-both : (a b : Bool) → a ≡ true → b ≡ true → (a && b) ≡ true
+pub and-both : (a b : Bool) → a ≡ true → b ≡ true → (a && b) ≡ true
 and-both a b p q = cc
 
 -- the members of a writer's open set, up to a moment
