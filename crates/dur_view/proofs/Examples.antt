@@ -1,30 +1,28 @@
 -- Small histories, computed.
-use Rattle.std.specs.Prelude.{◌≡◌, ℕ, ◌+◌, ◌*◌, ◌^◌, Bool, true, false, Option, Some, None, List, [], ◌∷◌, ◌++◌, map, replicate, refl}
+use Rattle.std.specs.Prelude.{◌≡◌, ℕ, ◌^◌, true, false, Option, Some, None, List, [], ◌∷◌, ◌++◌, map, replicate, refl}
 use Rattle.dur_view.specs.Identities.{Guid}
 use Rattle.dur_view.specs.Identities.{Key}
 use Rattle.dur_base.specs.declared.sample.Act.{Act}
-use Rattle.dur_base.specs.declared.sample.Act.TheVariants.{Write, Dispose, Unregister, DisposeUnregister, Marker}
+use Rattle.dur_base.specs.declared.sample.Act.TheVariants.{Write, Dispose, Unregister, DisposeUnregister}
 use Rattle.dur_base.specs.declared.sample.SetMark.{SetMark}
 use Rattle.dur_base.specs.declared.sample.SetMark.TheVariants.{NoSet, End, Of}
-use Rattle.dur_base.specs.declared.sample.Sample.{Sample}
 use Rattle.dur_base.specs.declared.entry.Entry.{Entry}
 use Rattle.dur_base.specs.declared.entry.Entry.TheVariants.{Took, Skip, Lost}
 use Rattle.dur_qos.specs.declared.plan.Topic.{Topic}
 use Rattle.dur_base.specs.declared.kinds.Durability.TheVariants.{Transient}
 use Rattle.dur_base.specs.declared.kinds.Shape.TheVariants.{Hash}
 use Rattle.dur_base.specs.declared.sample.Form.TheVariants.{Data}
-use Rattle.dur_view.specs.declared.data.View.{View}
-use Rattle.dur_view.specs.History.{History, Start, ◌▸◌, ◌+>◌, start, next, held}
+use Rattle.dur_view.specs.History.{History, Start, ◌▸◌, start, next}
 use Rattle.dur_view.specs.Past.{past}
 use Rattle.dur_view.specs.Fates.{entitled, living, disposed, quiet_since, existing}
-use Rattle.dur_view.specs.Refused.{refused, Limit, Instances, PerInstance, Samples, Held}
+use Rattle.dur_view.specs.Refused.{refused, Instances, Samples, Held}
 use Rattle.dur_view.specs.View.{view}
 use Rattle.dur_view.specs.IsSound.{IsSound, GoodTopics}
 use Rattle.dur_base.specs.Goodness.{IsGood, IsMark, IsLifespan, IsAct}
 use Rattle.dur_qos.specs.Good.{IsLimit}
 use Rattle.dur_qos.specs.Plan.{is_above}
-use Rattle.dur_view.specs.Persistent.{persistent, persistent_view}
-use Rattle.dur_view.specs.Snapshot.{snap, original_of}
+use Rattle.dur_view.specs.Persistent.{persistent}
+use Rattle.dur_view.specs.Snapshot.{snap}
 use Rattle.dur_view.specs.Sound.{Continues}
 use Rattle.std.proofs.Common.{arith}
 use Rattle.dur_view.specs.Nack.{asked, count_to}
@@ -39,7 +37,7 @@ aa = replicate 16 170
 abbrev bb : Key
 bb = replicate 16 187
 
--- the plan P with this topic
+-- the blank history of a plan with this topic and one writer
 abbrev P : Topic → History
 P topic = Start record {
   last = 0;

@@ -1,7 +1,7 @@
 -- The full view of a history's view is the view of its entries over the full view of its start.
-use Rattle.std.proofs.Common.{◌≡◌, ℕ, zero, suc, ◌+◌, ◌≤◌, ◌<◌, Bool, true, false, cond, not, ◌&&◌, Option, Some, None, List, [], ◌∷◌, ◌++◌, map, length, refl, sym, ap, ◌∙◌, subst, append-nil, length-append, arith, ◌⊎◌, inl, inr}
+use Rattle.std.proofs.Common.{◌≡◌, ℕ, zero, suc, ◌+◌, ◌≤◌, ◌<◌, Bool, true, false, cond, not, ◌&&◌, Option, Some, List, [], ◌∷◌, ◌++◌, map, length, refl, ap, ◌∙◌, append-nil, length-append, arith, ◌⊎◌, inl, inr}
 use mathlib.Core.Path.{fun_ext}
-use Rattle.std.specs.Prelude.{◌==◌, if◌then◌else◌, nat_lt, filter, find, is_some, option_map, unwrap_or, slice_get}
+use Rattle.std.specs.Prelude.{◌==◌, if◌then◌else◌, nat_lt, filter, is_some, option_map, unwrap_or, slice_get}
 use Rattle.std.specs.List.{list_all}
 use Rattle.std.proofs.lemmas.Bool.{and_parts, ltb-true, ne_eqb}
 use Rattle.dur_qos.specs.declared.plan.Plan.{Plan}
@@ -16,7 +16,7 @@ use Rattle.dur_view.specs.declared.data.Instance.{Instance}
 use Rattle.dur_view.specs.declared.data.Kept.{Kept}
 use Rattle.dur_view.specs.declared.data.View.{View}
 use Rattle.dur_view.specs.Words.{is_same, writer_line, stands, topic_of, place_in}
-use Rattle.dur_view.specs.History.{History, Start, ◌▸◌, start, next, next_by, held, held_by, writer_of, brings, brings_to, Follows, Event}
+use Rattle.dur_view.specs.History.{History, Start, ◌▸◌, start, next, next_by, held, held_by, writer_of, brings, brings_to, Event}
 use Rattle.dur_view.specs.Past.{Past, Begin, ◌▹▹◌, Part, past, part, made_of, is_kept_of, no_topic}
 use Rattle.dur_view.specs.IsSound.{IsSound, IsHistory}
 use Rattle.dur_view.specs.View.{view, line_after, lines_at, kept_of, instances_upto, kept_upto}

@@ -4,7 +4,7 @@ use Rattle.std.proofs.lemmas.List.{take_more}
 use Rattle.dur_view.specs.Identities.{Key}
 use Rattle.dur_view.specs.declared.line.Line.{Line}
 use Rattle.dur_view.specs.History.{Event, Effect, Gone}
-use Rattle.dur_view.specs.Past.{Made, Past, Begin, ◌▹◌, ◌▹▹◌}
+use Rattle.dur_view.specs.Past.{Made, Past, ◌▹◌, ◌▹▹◌}
 use Rattle.std.specs.Prelude.{nat_le, filter}
 use Rattle.std.proofs.lemmas.List.Elements.{filter-append}
 use Rattle.dur_view.specs.Snapshot.{change_of}

@@ -1,10 +1,10 @@
 -- The view of a history keeps the rules of a sound view on the order of instances, on quiet ones and on who is registered.
-use Rattle.std.proofs.Common.{◌≡◌, ℕ, zero, suc, ◌+◌, ◌≤◌, ◌<◌, Bool, true, false, cond, not, ◌&&◌, ◌||◌, Option, Some, None, List, [], ◌∷◌, ◌++◌, map, length, refl, sym, ap, ◌∙◌, subst, arith}
-use Rattle.std.specs.Prelude.{◌==◌, nat_lt, nat_le, filter, is_some, option_map, option_and_then, unwrap_or}
+use Rattle.std.proofs.Common.{◌≡◌, ℕ, zero, suc, ◌<◌, Bool, true, false, cond, not, ◌&&◌, ◌||◌, Option, Some, None, List, [], ◌∷◌, ◌++◌, map, length, refl, sym, ap, arith}
+use Rattle.std.specs.Prelude.{◌==◌, nat_lt, filter, is_some, option_map, option_and_then, unwrap_or}
 use Rattle.std.specs.List.{list_all}
 use Rattle.std.specs.Ordering.{is_lt}
-use Rattle.std.specs.declared.cmp.Ordering.TheVariants.{Less, Equal, Greater}
-use Rattle.std.proofs.lemmas.Bool.{and_parts, eq-eqb, ltb-true, lt-ltb, le-ltb, eqb-false, or_left, or_right}
+use Rattle.std.specs.declared.cmp.Ordering.TheVariants.{Less}
+use Rattle.std.proofs.lemmas.Bool.{and_parts, eq-eqb, ltb-true, lt-ltb, eqb-false, or_left, or_right}
 use Rattle.dur_base.specs.declared.sample.Act.{Act}
 use Rattle.dur_base.specs.declared.sample.Act.TheVariants.{Write, Dispose, Unregister, DisposeUnregister, Marker}
 use Rattle.dur_view.specs.Identities.{Key}
@@ -12,8 +12,8 @@ use Rattle.dur_view.specs.declared.data.Instance.{Instance}
 use Rattle.dur_view.specs.declared.data.View.{View}
 use Rattle.dur_view.specs.Words.{is_key}
 use Rattle.dur_view.specs.History.{History, Start, ◌▸◌, start, brings_to, Event, Effect, Gone}
-use Rattle.dur_view.specs.Past.{Part, Past, Begin, ◌▹◌, ◌▹▹◌, past, part}
-use Rattle.dur_view.specs.Fates.{line_in, is_of, time_of, disposed, registered, registered_by, with_place, without, is_nobody, is_quiet, quiet_since, exists, keys, existing, key_cmp}
+use Rattle.dur_view.specs.Past.{Past, Begin, ◌▹◌, ◌▹▹◌, past, part}
+use Rattle.dur_view.specs.Fates.{line_in, is_of, time_of, registered, registered_by, with_place, is_nobody, is_quiet, quiet_since, exists, keys, existing, key_cmp}
 use Rattle.dur_view.specs.Sound.{EachKey, Ascending}
 use Rattle.dur_view.specs.IsSound.{IsSound, SoundInstances, each_two, is_same_bool}
 use Rattle.dur_view.specs.View.{view, line_of, lines_at, instances_upto}
@@ -32,7 +32,7 @@ quiet-begin : (v : View) (t : ℕ) (k : Key) → IsSound v → is_some (quiet_si
 quiet-begin v t k sound =
     quiet-begin-at (line_in (part v t).lines k)
     (λ line found. all-found (λ i. is_same_bool (is_some i.quiet) (i.disposed && is_nobody i.registered)) (λ i. is_key i.key k) (part v t).lines line
-      (all-filter (λ i. is_same_bool (is_some i.quiet) (i.disposed && is_nobody i.registered)) (λ i. i.topic == t) v.instances sound.quiet) found)
+    (all-filter (λ i. is_same_bool (is_some i.quiet) (i.disposed && is_nobody i.registered)) (λ i. i.topic == t) v.instances sound.quiet) found)
 
 quiet-step-at : (q a g : Bool) (o : Option ℕ) (t : ℕ) → is_some o ≡ g → is_some (cond q (cond (a && g) o (Some t)) None) ≡ q
 quiet-step-at true true true o t is = is
@@ -137,7 +137,7 @@ rise-past : (t : ℕ) (h : History) (k : Key) → IsSound (start h) → each_two
 rise-past t (Start v) k sound =
     rise-begin-at (line_in (part v t).lines k)
     (λ line found. all-found (λ i. each_two nat_lt i.registered) (λ i. is_key i.key k) (part v t).lines line
-      (all-filter (λ i. each_two nat_lt i.registered) (λ i. i.topic == t) v.instances sound.registered_in_order) found)
+    (all-filter (λ i. each_two nat_lt i.registered) (λ i. i.topic == t) v.instances sound.registered_in_order) found)
 rise-past t (h ▸ e) k sound = rise-extend (past t h) (brings_to t h e) k (rise-past t h k sound)
 
 -- ---- what is tested of each line

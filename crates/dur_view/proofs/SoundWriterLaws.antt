@@ -1,5 +1,5 @@
 -- The view of a history keeps the rules of a sound view on topics, on writers and on the members of their open sets.
-use Rattle.std.proofs.Common.{◌≡◌, ℕ, suc, ◌+◌, ◌≤◌, ◌<◌, Bool, true, false, cond, not, ◌&&◌, Option, Some, None, List, [], ◌∷◌, ◌++◌, map, length, refl, sym, ap, ◌∙◌, subst, arith}
+use Rattle.std.proofs.Common.{◌≡◌, ℕ, suc, ◌+◌, ◌≤◌, Bool, true, false, cond, not, ◌&&◌, Option, Some, List, [], ◌∷◌, ◌++◌, map, length, refl, sym, ap, ◌∙◌, subst, arith}
 use Rattle.std.specs.Prelude.{◌==◌, nat_lt, nat_le, is_some, option_map, unwrap_or}
 use Rattle.std.specs.List.{list_all, AllByRecursion}
 use Rattle.std.proofs.lemmas.Bool.{and_parts, eqb-true, eq-eqb, leb-true, le-leb}
@@ -8,16 +8,14 @@ use Rattle.dur_base.specs.Goodness.{IsGood}
 use Rattle.dur_base.specs.declared.sample.Sample.{Sample}
 use Rattle.dur_base.specs.declared.sample.SetMark.{SetMark}
 use Rattle.dur_base.specs.declared.sample.SetMark.TheVariants.{NoSet, End, Of}
-use Rattle.dur_base.specs.declared.entry.Entry.{Entry}
 use Rattle.dur_base.specs.declared.entry.Entry.TheVariants.{Took, Skip, Lost}
 use Rattle.dur_qos.specs.declared.plan.Topic.{Topic}
 use Rattle.dur_view.specs.Identities.{Guid}
 use Rattle.dur_view.specs.declared.data.Held.{Held}
 use Rattle.dur_view.specs.declared.data.KeptWriter.{KeptWriter}
-use Rattle.dur_view.specs.declared.data.View.{View}
 use Rattle.dur_view.specs.Words.{is_same, writer_line, stands, topic_of, is_key_of}
-use Rattle.dur_view.specs.History.{History, Start, ◌▸◌, start, moment, moment_of, next, next_by, held, held_by, joined, opens, goes_on, writer_of, Follows}
-use Rattle.dur_view.specs.IsSound.{IsSound, IsHistory, SoundWriters, each_two, is_of_set, run_to, is_open_set}
+use Rattle.dur_view.specs.History.{History, Start, ◌▸◌, start, moment, next, held, joined, goes_on, Follows}
+use Rattle.dur_view.specs.IsSound.{IsHistory, SoundWriters, each_two, is_of_set, run_to, is_open_set}
 use Rattle.dur_view.specs.View.{view, line_after}
 use Rattle.dur_view.proofs.SameEffects.{is_same-true}
 use Rattle.dur_view.proofs.Parts.{AllStand, all-stand}
@@ -199,10 +197,9 @@ sets-in-view : (h : History) (m : ℕ) (ws : List KeptWriter) → IsHistory h �
     → AllByRecursion (λ l. SoundSet (start h).topics l.topic m l.next l.held) (map (line_after h) ws)
 sets-in-view h m [] follow le stand own = tt
 sets-in-view h m (line ∷ ws) follow le stand own =
-    let topic : topic_of (start h) line.guid ≡ line.topic = ap (λ o. unwrap_or (option_map (λ l. l.topic) o) 0) own.0 in
-    (
+    let topic : topic_of (start h) line.guid ≡ line.topic = ap (λ o. unwrap_or (option_map (λ l. l.topic) o) 0) own.0 in (
       subst (λ t. SoundSet (start h).topics t m (next h line.guid) (held h line.guid)) topic
-      (set-later (start h).topics (topic_of (start h) line.guid) (moment h) m (next h line.guid) (held h line.guid) le (set-of h line.guid follow stand.0)),
+          (set-later (start h).topics (topic_of (start h) line.guid) (moment h) m (next h line.guid) (held h line.guid) le (set-of h line.guid follow stand.0)),
       sets-in-view h m ws follow le stand.1 own.1,
     )
 

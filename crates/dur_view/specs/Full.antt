@@ -1,5 +1,5 @@
 -- A view with all that a plan declares.
-use Rattle.std.specs.Prelude.{ℕ, Bool, not, Option, Some, None, List, [], ◌∷◌, ◌++◌, map, filter, option_and_then, unwrap_or, slice_get}
+use Rattle.std.specs.Prelude.{ℕ, not, List, [], ◌++◌, map, filter, option_and_then, unwrap_or, slice_get}
 use Rattle.std.specs.Option.{is_some}
 use Rattle.dur_qos.specs.declared.plan.Plan.{Plan}
 use Rattle.dur_qos.specs.declared.plan.Topic.{Topic}

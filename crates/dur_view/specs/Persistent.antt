@@ -1,8 +1,7 @@
 -- The part of a plan, of a view and of a history that outlives the process: the topics of kind PERSISTENT (DDS 2.2.3.4).
-use Rattle.std.specs.Prelude.{ℕ, Bool, true, false, if◌then◌else◌, Option, Some, None, List, [], ◌∷◌, map, filter, take, length, option_map, unwrap_or, slice_get}
+use Rattle.std.specs.Prelude.{ℕ, Bool, true, false, if◌then◌else◌, List, map, filter, take, length, option_map, unwrap_or, slice_get}
 use Rattle.dur_base.specs.declared.kinds.Durability.{Durability}
-use Rattle.dur_base.specs.declared.kinds.Durability.TheVariants.{Volatile, TransientLocal, Transient, Persistent}
-use Rattle.dur_base.specs.declared.entry.Entry.{Entry}
+use Rattle.dur_base.specs.declared.kinds.Durability.TheVariants.{Persistent}
 use Rattle.dur_qos.specs.declared.plan.Plan.{Plan}
 use Rattle.dur_qos.specs.declared.plan.Topic.{Topic}
 use Rattle.dur_qos.specs.declared.plan.WriterLine.{WriterLine}

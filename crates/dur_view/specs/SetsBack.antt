@@ -1,5 +1,5 @@
 -- Another way to say which set is open: looking back over the writer's entries, all are of the set, down to the one with its number.
-use Rattle.std.specs.Prelude.{ℕ, Bool, true, false, ◌==◌, if◌then◌else◌, Option, Some, None, List, [], ◌∷◌, ◌++◌, option_map, unwrap_or}
+use Rattle.std.specs.Prelude.{ℕ, ◌==◌, if◌then◌else◌, Option, Some, None, List, [], ◌∷◌, ◌++◌, option_map, unwrap_or}
 use Rattle.dur_view.specs.Identities.{Guid}
 use Rattle.dur_view.specs.declared.data.Held.{Held}
 use Rattle.dur_base.specs.declared.sample.SetMark.{SetMark}

@@ -6,8 +6,8 @@ ghost use Rattle.dur_view.specs.Past.{Begin, ◌▹▹◌, part};
 ghost use Rattle.dur_view.specs.Fates.{line_in, delay, is_long, is_over_by, reaches, has_fate};
 ghost use Rattle.dur_view.specs.Lines.{line_in_past};
 
-use crate::line::is_long;
-use crate::{Event, Instance, Line, View};
+use crate::line::{Line, is_long};
+use crate::{Event, Instance, View};
 use dur_base::{Guid, Key, List, Number, OutOfMemory, Sample, Ticks};
 use dur_qos::Topic;
 use std::alloc::Global;

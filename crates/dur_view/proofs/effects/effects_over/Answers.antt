@@ -1,6 +1,6 @@
-use Rattle.std.proofs.Common.{◌≡◌, ◌++◌, List, take, sym, ap, ◌∙◌}
+use Rattle.std.proofs.Common.{◌++◌, List, take, sym, ap, ◌∙◌}
 use Rattle.dur_view.specs.declared.change.Event.{Event}
-use Rattle.dur_view.specs.History.{Start, ◌+>◌, effects, brings_to}
+use Rattle.dur_view.specs.History.{Start, ◌+>◌, effects}
 use Rattle.dur_view.specs.Entitled.{brings_over}
 use Rattle.dur_view.specs.Extend.{extend-more}
 use Rattle.dur_view.proofs.SameEffects.{brings-over}

@@ -1,4 +1,4 @@
-use Rattle.std.proofs.Common.{◌≡◌, List, ap, ◌∙◌, sym}
+use Rattle.std.proofs.Common.{List, ap, ◌∙◌, sym}
 use Rattle.dur_view.specs.declared.data.Held.{Held}
 use Rattle.dur_view.specs.History.{Start, held, held_by}
 use Rattle.dur_view.specs.Extend.{extend-more}

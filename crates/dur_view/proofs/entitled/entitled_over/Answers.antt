@@ -1,4 +1,4 @@
-use Rattle.std.proofs.Common.{◌≡◌, ◌++◌, List, take, sym, ap, ◌∙◌}
+use Rattle.std.proofs.Common.{◌++◌, List, take, sym, ap, ◌∙◌}
 use Rattle.dur_view.specs.declared.change.Change.{Change}
 use Rattle.dur_view.specs.Past.{Begin, ◌▹▹◌, part}
 use Rattle.dur_view.specs.Fates.{made, made_by}

@@ -1,7 +1,5 @@
-use Rattle.std.proofs.Common.{◌≡◌, ◌+◌, ◌*◌, refl, sym, ap, ◌∙◌}
-use Rattle.dur_view.specs.declared.line.Line.{Line}
+use Rattle.std.proofs.Common.{refl, sym, ◌∙◌}
 use Rattle.dur_view.specs.Past.{Begin, ◌▹▹◌, part}
-use Rattle.dur_view.specs.Fates.{settings, delay}
 use Rattle.dur_view.proofs.LineLaws.{fate-is}
 use Rattle.dur_view.proofs.Parts.{settings-extend}
 use Rattle.dur_view.proofs.fates.is_gone.Goals as goal

@@ -1,6 +1,6 @@
-use Rattle.std.proofs.Common.{◌≡◌, List, sym, ap, ◌∙◌}
+use Rattle.std.proofs.Common.{List, sym, ap, ◌∙◌}
 use Rattle.dur_view.specs.declared.change.Event.{Event}
-use Rattle.dur_view.specs.History.{Start, ◌+>◌, start, effects}
+use Rattle.dur_view.specs.History.{Start, ◌+>◌, effects}
 use Rattle.dur_view.specs.Past.{Begin, ◌▹▹◌, part}
 use Rattle.dur_view.specs.Snapshot.{snap}
 use Rattle.dur_view.proofs.SameEffects.{past-effects, start-extend}

@@ -1,4 +1,3 @@
-use Rattle.std.proofs.Common.{◌≡◌, sym, ap, ◌∙◌}
 use Rattle.dur_view.proofs.BlankViews.{blank-is}
 use Rattle.dur_view.proofs.data.View.blank.Goals as goal
 

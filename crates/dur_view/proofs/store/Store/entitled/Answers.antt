@@ -1,4 +1,4 @@
-use Rattle.std.proofs.Common.{◌≡◌, ◌<◌, length, subst, sym, ap, ◌∙◌}
+use Rattle.std.proofs.Common.{◌<◌, length, subst, sym, ap, ◌∙◌}
 use Rattle.dur_view.specs.declared.data.View.{View}
 use Rattle.dur_view.specs.History.{Start, start}
 use Rattle.dur_view.proofs.SameEffects.{start-extend}
