@@ -1,0 +1,5 @@
+use Rattle.dur_view.proofs.Stretches.{stretches-listed}
+use Rattle.dur_view.proofs.law.ended_stretches_purge.Goals as goal
+
+pub returns : goal.returns
+returns c = stretches-listed

@@ -1,0 +1,5 @@
+use Rattle.dur_view.proofs.Back.{back-held}
+use Rattle.dur_view.proofs.law.open_sets_look_back.Goals as goal
+
+pub returns : goal.returns
+returns c = back-held

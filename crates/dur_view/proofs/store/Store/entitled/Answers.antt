@@ -1,0 +1,9 @@
+use Rattle.std.proofs.Common.{◌<◌, length, subst, sym, ap, ◌∙◌}
+use Rattle.dur_view.specs.declared.data.View.{View}
+use Rattle.dur_view.specs.History.{Start, start}
+use Rattle.dur_view.proofs.SameEffects.{start-extend}
+use Rattle.dur_view.proofs.store.Store.entitled.Goals as goal
+
+pub entitled_of-requires : goal.entitled_of-requires
+entitled_of-requires c =
+    subst (λ (v : View). c.args.topic < length v.topics) (ap start (sym c.self.view_is) ∙ start-extend (Start c.self.inside.start) c.self.inside.entries.items) c.requires
