@@ -4,7 +4,7 @@ import os
 
 LAYERS = [
     ("program", [("durability", "command line, listing")]),
-    ("histories", [("dur_store", "history of a topic")]),
+    ("histories", [("dur_store", "history of a topic"), ("dur_view", "definitions and laws")]),
     ("streams", [("dur_capture", "records of a capture"), ("dur_qos", "plan text"), ("rel_reader", "known numbers")]),
     ("wire", [("rtps_submsg", "submessages"), ("rtps_params", "parameter lists"), ("rtps_message", "facts, keys, messages")]),
     ("threads", [("dur_turn", "one call at a time")]),
