@@ -1,4 +1,4 @@
--- Where a payload lies in a datagram, and a break.
+-- Where a payload lies in a datagram.
 use Rattle.std.proofs.Common.{◌≡◌, ℕ, zero, suc, ◌+◌, ◌-◌, ◌/◌, ◌≤◌, Bool, true, false, eqb, List, [], ◌∷◌, ◌++◌, length, take, drop, refl, sym, ap, subst, ◌∙◌, append_assoc, inl, inr, arith}
 use Rattle.std.proofs.lemmas.List.{take-append-drop, drop-drop, length-append, length-take, length-drop, drop_all}
 use Rattle.std.proofs.lemmas.Bool.{cases_lt}
@@ -13,13 +13,11 @@ use Rattle.rtps_params.specs.declared.inline.Inline.{Inline}
 use Rattle.rtps_submsg.specs.declared.sub.DataSub.{DataSub}
 use Rattle.rtps_submsg.specs.declared.sub.Sub.{Sub}
 use Rattle.rtps_submsg.specs.declared.sub.Sub.TheVariants.{Pad, InfoTs, InfoDst, InfoSrc, Data, Heartbeat, AckNack, Gap, Other}
-use Rattle.rtps_submsg.specs.declared.sub.SubKind.{SubKind}
-use Rattle.rtps_submsg.specs.declared.sub.SubKind.TheVariants.{Cut, BothDataAndKey, BadNumber, BadSet, BadRange, List as InList, BadOffset}
 use Rattle.rtps_submsg.specs.Grammar.{Row, ends, field, Spells}
 use Rattle.rtps_submsg.specs.Rows.{has, words_row, acknack_row, gap_row, info_ts_row, row_of}
 use Rattle.rtps_submsg.specs.Data.{Head, form_of, payload_of, InlineSpells, DataSpells}
-use Rattle.rtps_submsg.specs.Headers.{Heads, Framed, HeadBreaks}
-use Rattle.rtps_submsg.specs.Subs.{SpellsBy, SubSpells, SubBreaks}
+use Rattle.rtps_submsg.specs.Headers.{Framed}
+use Rattle.rtps_submsg.specs.Subs.{SpellsBy, SubSpells}
 use Rattle.rtps_submsg.specs.Writing.{payload_text}
 use Rattle.rtps_message.specs.Facts.{IsPartBefore}
 
@@ -132,12 +130,7 @@ body_ends false f s x = subst (λ (t : List ℕ). IsEnd t f.body) (sym (plain_no
 
 -- ---- in the datagram
 
-heads_long : (bytes : List ℕ) (id flags len : ℕ) (rest : List ℕ) → Heads bytes id flags len rest → length bytes ≡ 4 + length rest
-heads_long bytes id flags len rest h =
-    let text = octets (has flags 0x01) w16 len in
-    omega (arith, ap length h.parts, length-append (id ∷ flags ∷ []) (text ++ rest), length-append text rest, length_16 (has flags 0x01) len)
-
-front : (a b c d : List ℕ) → a ++ (b ++ ((c ++ d))) ≡ (a ++ b) ++ (c ++ d)
+front : (a b c d : List ℕ) → a ++ (b ++ (c ++ d)) ≡ (a ++ b) ++ (c ++ d)
 front a b c d = sym (append_assoc a b (c ++ d))
 
 part_of : (bytes : List ℕ) (s : Sub) (n : ℕ) → SubSpells bytes s n → (length (payload_text s) + 4 ≤ n) × (take (length (payload_text s)) (drop (n - length (payload_text s)) bytes) ≡ payload_text s)
@@ -165,24 +158,3 @@ part_before datagram at s n inside fits x =
       within = omega (arith, fits, length-drop at datagram, inside);
       part = sym (ap (λ (m : ℕ). take m (drop (at + n - len) datagram)) count ∙ ap (λ (m : ℕ). take len (drop m datagram)) from ∙ ap (take len) (sym (drop-drop (n - len) at datagram)) ∙ part.1);
     }
-
--- ---- a break
-
-head_within : (bytes : List ℕ) (at : ℕ) (kind : SubKind) → HeadBreaks bytes at kind → at ≤ length bytes
-head_within bytes at Cut (inl b) = omega (arith, b.1)
-head_within bytes at Cut (inr b) = omega (arith, b.1, heads_long bytes b.0.id b.0.flags b.0.len b.0.rest b.0.heads)
-head_within bytes at BothDataAndKey b = omega (arith, b.1, heads_long bytes b.0.id b.0.flags b.0.len b.0.rest b.0.heads)
-head_within bytes at BadNumber b = absurd b
-head_within bytes at BadSet b = absurd b
-head_within bytes at BadRange b = absurd b
-head_within bytes at (InList k) b = absurd b
-head_within bytes at BadOffset b = absurd b
-
-pub break_within : (bytes : List ℕ) (at : ℕ) (kind : SubKind) → SubBreaks bytes at kind → at ≤ length bytes
-break_within bytes at kind (inl b) = head_within bytes at kind b
-break_within bytes at kind (inr b) = omega (
-  arith,
-  b.place,
-  heads_long bytes b.frame.id b.frame.flags b.framed.len (b.frame.body ++ b.framed.after) b.framed.heads,
-  length-append b.frame.body b.framed.after,
-)
