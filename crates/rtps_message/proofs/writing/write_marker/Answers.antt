@@ -1,0 +1,19 @@
+use Rattle.std.proofs.Common.{arith, ◌≡◌, ◌∙◌, ap, length}
+use Rattle.rtps_message.proofs.Places.{marker_fits}
+use Rattle.rtps_message.proofs.writing.write_marker.Goals as goal
+
+pub write_message-requires-clause-texts : goal.write_message-requires-clause-texts
+write_message-requires-clause-texts c =
+    let d = c.marker_data.ensures in
+    let writer : length c.marker_data.result.writer ≡ 4 = ap length d.writer_is ∙ c.entity_size.ensures in
+    rw c.prefix.ensures (marker_fits c.args.from c.args.to c.marker_data.result c.prefix_size.ensures c.guid_size.ensures writer d.reader d.inline d.payload).0
+
+pub write_message-requires-clause-room : goal.write_message-requires-clause-room
+write_message-requires-clause-room c =
+    let d = c.marker_data.ensures in
+    let writer : length c.marker_data.result.writer ≡ 4 = ap length d.writer_is ∙ c.entity_size.ensures in
+    let fits = marker_fits c.args.from c.args.to c.marker_data.result c.prefix_size.ensures c.guid_size.ensures writer d.reader d.inline d.payload in
+    rw c.prefix.ensures (omega (arith, fits.1, c.requires))
+
+pub returns : goal.returns
+returns c = record { written = record { d = c.marker_data.result; is = c.marker_data.ensures; written = rw (← c.prefix.ensures) c.write_message.ensures.written } }

@@ -1,0 +1,4 @@
+pub mod Facts
+pub mod Messages
+pub mod Samples
+pub mod Written

@@ -1,0 +1,15 @@
+//! Messages of DDSI-RTPS (8.3, 9.4): the facts that a datagram tells, the samples and keys that they stand
+//! for, and the messages that the service writes.
+#![tactic(auto)]
+
+mod context;
+mod heard;
+mod hearing;
+mod key;
+mod sample;
+mod writing;
+
+pub use heard::{End, Heard};
+pub use hearing::{facts, facts_of};
+pub use sample::sample_of;
+pub use writing::{write_acknack, write_data, write_heartbeat, write_marker};
