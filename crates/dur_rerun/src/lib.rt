@@ -13,5 +13,5 @@ pub use output::say;
 pub use command::show;
 pub use status::{Ran, Status};
 
-//#[cfg(test)]
-//mod tests;
+#[cfg(test)]
+mod tests;

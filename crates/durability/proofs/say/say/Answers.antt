@@ -1,9 +1,0 @@
-use Rattle.std.proofs.Common.{rules, arith}
-use Rattle.durability.proofs.Says.{says_more}
-use Rattle.durability.proofs.say.say.Goals as goal
-
-pub loop-rest-preserved : goal.loop-rest-preserved
-loop-rest-preserved g c = record {
-  said = λ told. says_more _ _ _ _ _ _ _ (c.loop-rest.invariant.said told) (c.in_ok-count.ensures.sends told) (search rules);
-  later = omega (arith, c.loop-rest.invariant.later, c.in_ok-count.ensures.cause);
-}
