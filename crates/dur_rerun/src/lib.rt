@@ -2,15 +2,15 @@
 //! what each record of a capture tells.
 #![tactic(auto)]
 
+mod command;
 mod line;
 mod open;
-mod print;
 mod output;
-mod command;
+mod print;
 mod status;
 
-pub use output::say;
 pub use command::show;
+pub use output::say;
 pub use status::{Ran, Status};
 
 #[cfg(test)]

@@ -107,7 +107,13 @@ pub fn open_plan<S: Source>(alloc: Global, epoch: u32, input: &mut S) -> Result<
         };
         if taken < count {
             let behind = before + taken as u64;
-            return match begin(alloc, reader, epoch, behind, piece[..count].split_at(taken).1) {
+            return match begin(
+                alloc,
+                reader,
+                epoch,
+                behind,
+                piece[..count].split_at(taken).1,
+            ) {
                 Ok(printer) => Ok(printer),
                 Err(_) => Err(NoPlan::Plan(no_memory())),
             };

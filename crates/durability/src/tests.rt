@@ -173,7 +173,9 @@ fn shows_plan(alloc: Global, second: &[u8], third: &[u8]) -> Status {
 }
 
 const TOPIC: &[u8] = b"topic T transient hash 1 - - - - 0\n";
+
 const WRITER: &[u8] = b"writer a1a1a1a1a1a1a1a1a1a1a1a100000102 T -\n";
+
 const OTHER: &[u8] = b"writer a1a1a1a1a1a1a1a1a1a1a1a100000102 U -\n";
 
 #[test]
