@@ -1,5 +1,5 @@
 -- Where nothing failed, the status is the one that the input calls for, or want of memory.
-use Rattle.std.proofs.Common.{◌≡◌, ℕ, List, drop, Option, Some, None, refl, sym, ap, subst, ◌∙◌, inl, inr, ◌⊎◌, arith}
+use Rattle.std.proofs.Common.{◌≡◌, ℕ, List, drop, Option, Some, None, refl, sym, ap, subst, ◌∙◌, inl, inr, ◌⊎◌}
 use Rattle.std.specs.Prelude.{IfSome, true}
 use Rattle.dur_outside.specs.World.{Image}
 use Rattle.dur_capture.specs.declared.fault.CapFault.{CapFault}
@@ -10,7 +10,6 @@ use Rattle.dur_qos.specs.declared.fault.PlanKind.{PlanKind}
 use Rattle.dur_qos.specs.declared.fault.PlanFault.{PlanFault}
 use Rattle.dur_qos.specs.declared.fault.PlanKind.TheVariants as kind
 use Rattle.dur_qos.specs.Text.{PlanText}
-use Rattle.dur_qos.specs.Reading.{taken, start}
 use Rattle.dur_qos.proofs.Texts.{no_further}
 use Rattle.dur_qos.proofs.Verdicts.{plan_or_fault, one_fault}
 use Rattle.dur_rerun.specs.declared.status.Status.{Status}

@@ -1,12 +1,12 @@
 -- Lines that go out one after the other.
-use Rattle.std.proofs.Common.{◌≡◌, ℕ, zero, suc, ◌+◌, ◌-◌, ◌<◌, ◌≤◌, ◌^◌, List, [], ◌∷◌, ◌++◌, length, take, drop, refl, sym, ap, subst, ◌∙◌, append_assoc, append-nil, length-append, arith, ◌⊎◌, inl, inr}
-use Rattle.std.proofs.lemmas.List.{take_all, take_at}
+use Rattle.std.proofs.Common.{◌≡◌, ℕ, zero, suc, ◌+◌, ◌-◌, ◌<◌, ◌≤◌, ◌^◌, List, [], ◌∷◌, ◌++◌, length, take, refl, sym, ap, subst, ◌∙◌, append_assoc, append-nil, length-append, arith, ◌⊎◌, inl, inr}
+use Rattle.std.proofs.lemmas.List.{take_all}
 use Rattle.bytes.proofs.Ranges.{take-append_past}
 use Rattle.dur_outside.specs.World.{Image}
 use Rattle.dur_capture.specs.declared.record.Record.{Record}
 use Rattle.dur_capture.specs.Capture.{record_text}
 use Rattle.dur_capture.specs.Feeding.{Feeding, Takes, Waits, Stops}
-use Rattle.dur_capture.specs.Whole.{Feeds, CaptureWithin, IsFault}
+use Rattle.dur_capture.specs.Whole.{Feeds, IsFault}
 use Rattle.dur_capture.specs.declared.fault.CapFault.{CapFault}
 use Rattle.dur_rerun.specs.declared.print.Stop.TheVariants.{Capture}
 use Rattle.dur_capture.proofs.Runs.{goes_on, takes_octets, whole_is, is_fault}

@@ -1,5 +1,5 @@
 -- What holds of the octets behind a plan holds of the whole input.
-use Rattle.std.proofs.Common.{◌≡◌, ℕ, ◌+◌, ◌≤◌, List, [], ◌++◌, length, take, drop, Option, Some, None, refl, sym, ap, subst, ◌∙◌, append_assoc, append-nil, length-append, arith, true, ◌^◌, ◌⊎◌, inl, inr}
+use Rattle.std.proofs.Common.{◌≡◌, ℕ, ◌≤◌, List, [], ◌++◌, length, drop, Option, Some, None, refl, sym, ap, subst, ◌∙◌, append_assoc, length-append, arith, true, ◌^◌, ◌⊎◌, inl, inr}
 use Rattle.std.specs.Prelude.{IfSome}
 use Rattle.std.specs.Io.KnownBytes.{Consumes}
 use Rattle.std.specs.List.{flat_map}
@@ -16,10 +16,9 @@ use Rattle.dur_qos.specs.declared.fault.PlanFault.{PlanFault}
 use Rattle.dur_qos.specs.declared.fault.PlanKind.TheVariants as kind
 use Rattle.dur_qos.specs.Text.{PlanText, line_text, IsFault}
 use Rattle.dur_rerun.specs.declared.print.Printer.{Printer}
-use Rattle.dur_rerun.specs.Saying.{wrote}
 use Rattle.dur_rerun.specs.Shown.{own_prefix, Begins, Opens, Shown, ShownPart, ShownAll}
 use Rattle.dur_rerun.proofs.Shows.{said_all}
-use Rattle.dur_rerun.specs.Showing.{WritesAll, WritesPart, WritesAtMost, CaptureBreaks, PlanBreaks, place_at}
+use Rattle.dur_rerun.specs.Showing.{WritesAll, WritesAtMost, CaptureBreaks, PlanBreaks, place_at}
 
 -- what follows a plan does not change it
 plan_more : (seen more : List ℕ) (plan : Plan) (n : ℕ) → PlanText seen plan n → PlanText (seen ++ more) plan n

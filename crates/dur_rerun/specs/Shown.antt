@@ -1,5 +1,5 @@
 -- What has been printed of a capture of which some octets have come.
-use Rattle.std.specs.Prelude.{◌≡◌, ℕ, ◌+◌, ◌≤◌, ◌^◌, ◌⊎◌, List, [], ◌++◌, length, drop, false, Some, None}
+use Rattle.std.specs.Prelude.{◌≡◌, ℕ, ◌+◌, ◌≤◌, ◌^◌, ◌⊎◌, List, ◌++◌, length, drop, false, Some, None}
 use Rattle.std.specs.Int.{w32, to_be_bytes}
 use Rattle.dur_outside.specs.World.{Image}
 use Rattle.dur_capture.specs.declared.record.Record.{Record}

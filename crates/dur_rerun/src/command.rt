@@ -1,12 +1,12 @@
 //! The command `show`.
 
-ghost use Rattle.std.specs.Prelude.{◌≡◌, ◌⊎◌, ◌≤◌, ℕ, Some, OnErr, OnOk, IfOk, IfErr, IfSome};
+ghost use Rattle.std.specs.Prelude.{◌≡◌, ◌⊎◌, ℕ, Some, IfSome};
 ghost use Rattle.std.specs.Io.KnownBytes.{IsAtEnd};
 ghost use Rattle.dur_outside.specs.Causes.{Rose};
 ghost use Rattle.dur_capture.specs.declared.fault.CapFault.{CapFault};
 ghost use Rattle.dur_qos.specs.declared.fault.PlanKind.{PlanKind};
 ghost use Rattle.dur_qos.specs.declared.fault.PlanFault.{PlanFault};
-ghost use Rattle.dur_rerun.specs.Showing.{IsWhole, WritesAll, WritesPart, WritesAtMost, CaptureBreaks, PlanBreaks, place_at};
+ghost use Rattle.dur_rerun.specs.Showing.{IsWhole, WritesAll, WritesAtMost, CaptureBreaks, PlanBreaks, place_at};
 
 use crate::open::{NoPlan, open_plan};
 use crate::print::{Stop, print_rest};

@@ -1,7 +1,6 @@
 //! The number that a process ends with, and the line of a fault.
 
 ghost use Rattle.std.specs.Prelude.{◌≡◌, ◌+◌, ◌++◌, ◌≤◌, length};
-ghost use Rattle.std.specs.Fmt.{decimal};
 ghost use Rattle.dur_outside.specs.Causes.{Rose};
 ghost use Rattle.durability.specs.Status.{number_of, fault_line, not_yet_line, input_line, plan_line, fault_name, plan_name};
 ghost use Rattle.dur_rerun.specs.Saying.{IsSaid, wrote};

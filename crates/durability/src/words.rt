@@ -1,6 +1,6 @@
 //! The command line.
 
-ghost use Rattle.std.specs.Prelude.{◌≡◌, ◌↔◌, ◌∷◌, [], map, string_bytes, codes, IsTrue};
+ghost use Rattle.std.specs.Prelude.{◌≡◌, ◌↔◌, map, string_bytes, codes, IsTrue};
 ghost use Rattle.durability.specs.CommandLine.{IsList, IsShow};
 
 fn is_list_word(word: &String) -> bool

@@ -1,5 +1,4 @@
-use Rattle.std.proofs.Common.{rules, drop, ap, subst, sym, ◌≡◌, ◌∙◌}
-use Rattle.std.specs.Prelude.{IfSome}
+use Rattle.std.proofs.Common.{drop}
 use Rattle.dur_rerun.proofs.Whole.{shown_first, all_written, part_written, all_parts, capture_breaks, plan_breaks}
 use Rattle.dur_rerun.proofs.command.run.Goals as goal
 

@@ -1,4 +1,4 @@
-use Rattle.std.proofs.Common.{rules, arith, ap, refl, sym, ◌≡◌, ◌∙◌, ◌++◌, List, ℕ, take, length, length-append}
+use Rattle.std.proofs.Common.{rules, arith, refl}
 use Rattle.std.proofs.KnownBytes.{Consumes-trans}
 use Rattle.dur_rerun.proofs.Rest.{same_seen}
 use Rattle.dur_rerun.proofs.Opens.{opens_inside, opens_last, piece_taken, reads_piece, push_told, last_told, sized}

@@ -1,5 +1,4 @@
-use Rattle.std.proofs.Common.{arith, ap, refl, ◌≡◌, ◌∙◌}
-use Rattle.dur_capture.specs.declared.fault.CapFault.{CapFault}
+use Rattle.std.proofs.Common.{arith, refl, ◌∙◌}
 use Rattle.dur_rerun.proofs.Shows.{shown_part, shown_fault, part_line, shown_more, counted_more, total_kept}
 use Rattle.dur_rerun.proofs.print.print_ready.Goals as goal
 

@@ -1,8 +1,6 @@
-use Rattle.std.proofs.Common.{rules, arith, ap, refl, ◌≡◌, ◌∙◌, ◌++◌, List, ℕ, take, length, append_assoc, subst, sym}
+use Rattle.std.proofs.Common.{rules, arith, refl}
 use Rattle.std.proofs.KnownBytes.{Consumes-trans}
-use Rattle.dur_rerun.specs.Shown.{Shown, ShownAll}
-use Rattle.dur_capture.specs.Whole.{IsFault}
-use Rattle.dur_rerun.proofs.Shows.{shown_part, shown_octets, shown_all, counted_octets, nearer}
+use Rattle.dur_rerun.proofs.Shows.{shown_part, shown_all, counted_octets, nearer}
 use Rattle.dur_rerun.proofs.Rest.{part_told, fault_told, shown_told, last_fault_told, same_seen, shown_seen}
 use Rattle.dur_rerun.proofs.print.print_rest.Goals as goal
 
