@@ -2,5 +2,4 @@ pub mod Admitted
 pub mod Complete
 pub mod Listed
 pub mod Reading
-pub mod Says
 pub mod Unique

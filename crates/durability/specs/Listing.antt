@@ -7,7 +7,7 @@ use Rattle.durability.specs.Plan.{plan_at}
 use Rattle.durability.specs.Form.{begin, over, Admits, StopsAt}
 use Rattle.durability.specs.Text.{list_text}
 use Rattle.dur_outside.specs.World.{Image}
-use Rattle.durability.specs.Saying.{IsSaid, wrote}
+use Rattle.dur_rerun.specs.Saying.{IsSaid, wrote}
 
 -- the octets of an input that count
 abbrev pub counted : List ℕ → List ℕ

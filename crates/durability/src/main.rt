@@ -7,7 +7,6 @@ mod laws;
 mod listing;
 mod plan;
 mod run;
-mod say;
 mod status;
 #[cfg(test)]
 mod tests;
@@ -15,8 +14,9 @@ mod text;
 mod words;
 
 use dur_outside::{OutputRig, StdSink, StdSource};
+use dur_rerun::Status;
 use run::durability;
-use status::{Status, number};
+use status::number;
 use std::env;
 use std::process::ExitCode;
 

@@ -1,41 +1,16 @@
-//! What became of a run: its status, the number that the process ends with, and the line of a fault.
+//! The number that a process ends with, and the line of a fault.
 
 ghost use Rattle.std.specs.Prelude.{◌≡◌, ◌+◌, ◌++◌, ◌≤◌, length};
-ghost use Rattle.std.specs.Fmt.{decimal};
 ghost use Rattle.dur_outside.specs.Causes.{Rose};
-ghost use Rattle.durability.specs.Status.{number_of, fault_line, not_yet_line};
-ghost use Rattle.durability.specs.Saying.{IsSaid, wrote};
+ghost use Rattle.durability.specs.Status.{number_of, fault_line, not_yet_line, input_line, plan_line, fault_name, plan_name};
+ghost use Rattle.dur_rerun.specs.Saying.{IsSaid, wrote};
 
-use crate::say::say;
 use arrayvec::ArrayVec;
+use dur_capture::CapFault;
 use dur_outside::Sink;
+use dur_qos::PlanKind;
+use dur_rerun::{Status, say};
 use itoa::Buffer;
-
-/// What became of a run.
-#[derive(Clone, Copy, Debug, PartialEq, Eq, Drop)]
-pub enum Status {
-    /// The input was read to its end, and all of the text was written.
-    Done,
-    /// The words are no command line.
-    Usage,
-    /// There was not enough memory.
-    OutOfMemory,
-    /// The source failed.
-    ReadFault,
-    /// The sink for output failed.
-    WriteFault,
-    /// The line or record that begins at that octet of the input is of a form that is not built yet.
-    NotYet(u64),
-}
-
-/// A status, and the rig that was handed in.
-#[derive(Drop)]
-pub struct Ran<R> {
-    /// What became of the run.
-    pub status: Status,
-    /// The rig.
-    pub rig: R,
-}
 
 /// The number of a status, with which the process ends.
 pub fn number(status: Status) -> u8
@@ -45,8 +20,10 @@ pub fn number(status: Status) -> u8
         Status::Done => 0,
         Status::Usage => 2,
         Status::OutOfMemory => 3,
+        Status::Input(_, _) => 4,
         Status::ReadFault => 5,
         Status::WriteFault => 6,
+        Status::Plan(_, _) => 8,
         Status::NotYet(_) => 14,
     }
 }
@@ -66,6 +43,61 @@ fn not_yet(place: u64) -> ArrayVec<u8, 64>
     let mut digits = Buffer::new();
     put(&mut line, b"durability: not yet ");
     put(&mut line, digits.format(place).as_bytes());
+    put(&mut line, b"\n");
+    line
+}
+
+/// The name of a fault of the capture.
+fn fault_name(fault: CapFault) -> &'static [u8]
+    ensures name { result.now ≡ fault_name fault }
+    ensures short { length result.now ≤ 16 }
+{
+    match fault {
+        CapFault::LongDatagram(_) => b"LongDatagram",
+        CapFault::EndsInside(_) => b"EndsInside",
+        CapFault::TooLong(_) => b"TooLong",
+        CapFault::OutOfMemory => b"OutOfMemory",
+    }
+}
+
+/// The name of what is wrong with a line of a plan.
+fn plan_name(kind: PlanKind) -> &'static [u8]
+    ensures name { result.now ≡ plan_name kind }
+    ensures short { length result.now ≤ 16 }
+{
+    match kind {
+        PlanKind::Word => b"Word",
+        PlanKind::Number => b"Number",
+        PlanKind::Twice => b"Twice",
+        PlanKind::UnknownTopic => b"UnknownTopic",
+        PlanKind::DepthAboveLimit => b"DepthAboveLimit",
+        PlanKind::TooMany => b"TooMany",
+        PlanKind::OutOfMemory => b"OutOfMemory",
+    }
+}
+
+fn input_fault(place: u64, fault: CapFault) -> ArrayVec<u8, 64>
+    ensures { result.items ≡ input_line place fault }
+{
+    let mut line = ArrayVec::new();
+    let mut digits = Buffer::new();
+    put(&mut line, b"durability: input ");
+    put(&mut line, digits.format(place).as_bytes());
+    put(&mut line, b" ");
+    put(&mut line, fault_name(fault));
+    put(&mut line, b"\n");
+    line
+}
+
+fn plan_fault(number: u32, kind: PlanKind) -> ArrayVec<u8, 64>
+    ensures { result.items ≡ plan_line number kind }
+{
+    let mut line = ArrayVec::new();
+    let mut digits = Buffer::new();
+    put(&mut line, b"durability: plan ");
+    put(&mut line, digits.format(number).as_bytes());
+    put(&mut line, b" ");
+    put(&mut line, plan_name(kind));
     put(&mut line, b"\n");
     line
 }
@@ -92,6 +124,8 @@ pub fn say_fault<E: Sink>(err: &mut E, status: Status)
         Status::OutOfMemory => say_line(err, b"durability: out of memory\n"),
         Status::ReadFault => say_line(err, b"durability: read fault\n"),
         Status::WriteFault => say_line(err, b"durability: write fault\n"),
+        Status::Input(place, fault) => say_line(err, &input_fault(place, fault)),
+        Status::Plan(line, kind) => say_line(err, &plan_fault(line, kind)),
         Status::NotYet(place) => say_line(err, &not_yet(place)),
     }
 }

@@ -2,9 +2,12 @@
 
 use crate::laws::{lists_or_stops, stops_once, text_once};
 use crate::run::durability;
-use crate::status::{Status, number};
+use crate::status::number;
 use dur_base::{List, Octets};
+use dur_capture::CapFault;
 use dur_outside::{MemDisk, MemRig, MemSink, MemSource};
+use dur_qos::PlanKind;
+use dur_rerun::Status;
 use std::alloc::Global;
 
 const PLAN: &[u8] = b"prefix 0102030405060708\ntopic T transient hash 1 - - - - 0\n\
@@ -128,6 +131,63 @@ fn other_forms_and_words_are_named(rt: HostRuntime) {
     stops_once();
     let done = run(alloc, "lists", FIRST, b"", none(alloc));
     assert!(rt; gives(&done, Status::Usage, b"", b"durability: usage\n"));
+}
+
+/// A heartbeat at moment 5: its record has 66 octets.
+const BEAT: &[u8] = b"\x05\x00\x00\x00\x00\x00\x00\x00\x00\x00\x34\x00\x00\x00RTPS\x02\x05\x00\x00\
+\xa1\xa1\xa1\xa1\xa1\xa1\xa1\xa1\xa1\xa1\xa1\xa1\x07\x01\x1c\x00\x00\x00\x00\x00\x00\x00\x01\x02\
+\x00\x00\x00\x00\x01\x00\x00\x00\x00\x00\x00\x00\x00\x00\x00\x00\x01\x00\x00\x00";
+
+#[test]
+fn records_are_shown_up_to_a_break(rt: HostRuntime) {
+    let alloc = rt.alloc();
+    let done = run(alloc, "show", BEAT, b"", none(alloc));
+    assert!(rt; gives(&done, Status::Done, b"1 5 0 1 whole\n", b""));
+    let done = run(alloc, "show", BEAT, b"\x00\x00\x00\x00\x00", none(alloc));
+    assert!(rt;
+        gives(
+            &done,
+            Status::Input(66, CapFault::EndsInside(66)),
+            b"1 5 0 1 whole\n",
+            b"durability: input 66 EndsInside\n"
+        )
+    );
+    assert!(rt; number(done.status) == 4);
+}
+
+/// A run of `show` over a plan whose second and third line are these.
+fn shows_plan(alloc: Global, second: &[u8], third: &[u8]) -> Status {
+    let mut bytes = Octets::new(alloc);
+    let _ = bytes.append(b"prefix 0102030405060708\n");
+    let _ = bytes.append(second);
+    let _ = bytes.append(third);
+    let mut words = Vec::new(alloc);
+    if let Ok(word) = String::from_str(alloc, "show") {
+        let _ = words.push(word);
+    }
+    let mut input = MemSource::new(bytes, List::new(alloc));
+    let mut err = MemSink::new(List::new(alloc));
+    let disk = MemDisk::new(Octets::new(alloc), Octets::new(alloc), List::new(alloc));
+    let rig = MemRig::new(disk, MemSink::new(List::new(alloc)));
+    durability(alloc, &words, &mut input, rig, &mut err).status
+}
+
+const TOPIC: &[u8] = b"topic T transient hash 1 - - - - 0\n";
+
+const WRITER: &[u8] = b"writer a1a1a1a1a1a1a1a1a1a1a1a100000102 T -\n";
+
+const OTHER: &[u8] = b"writer a1a1a1a1a1a1a1a1a1a1a1a100000102 U -\n";
+
+#[test]
+fn a_plan_is_told_where_it_breaks(rt: HostRuntime) {
+    let alloc = rt.alloc();
+    let deep = b"topic T transient hash 3 - - 2 - 0\n";
+    assert!(rt; shows_plan(alloc, deep, WRITER) == Status::Plan(2, PlanKind::DepthAboveLimit));
+    let zero = b"topic T transient hash 01 - - - - 0\n";
+    assert!(rt; shows_plan(alloc, zero, WRITER) == Status::Plan(2, PlanKind::Number));
+    assert!(rt; shows_plan(alloc, TOPIC, TOPIC) == Status::Plan(3, PlanKind::Twice));
+    assert!(rt; shows_plan(alloc, TOPIC, OTHER) == Status::Plan(3, PlanKind::UnknownTopic));
+    assert!(rt; shows_plan(alloc, TOPIC, WRITER) == Status::Plan(4, PlanKind::Word));
 }
 
 #[test]

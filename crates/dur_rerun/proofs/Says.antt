@@ -4,7 +4,7 @@ use Rattle.std.proofs.lemmas.List.{drop-drop}
 use Rattle.std.proofs.Math.Seq.{take-add}
 use Rattle.std.proofs.lemmas.Grind.{common_steps}
 use Rattle.dur_outside.specs.World.{Image, World, Sends}
-use Rattle.durability.specs.Saying.{IsSaying}
+use Rattle.dur_rerun.specs.Saying.{IsSaying}
 
 pub begins : (text : List ℕ) (i : Image) → IsSaying text text i i
 begins text i = record { count = 0; left = refl; written = ap (λ (x : List ℕ). record i { written = x }) (grind (arith, common_steps)) }

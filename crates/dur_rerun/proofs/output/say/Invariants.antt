@@ -1,6 +1,6 @@
 use Rattle.std.proofs.Common.{◌≤◌, length}
-use Rattle.durability.specs.Saying.{IsSaying}
-use Rattle.durability.proofs.say.say.Given as goal
+use Rattle.dur_rerun.specs.Saying.{IsSaying}
+use Rattle.dur_rerun.proofs.output.say.Given as goal
 
 abbrev pub invariant-loop-rest : goal.invariant-loop-rest
 invariant-loop-rest g l = record {

@@ -2,7 +2,7 @@
 
 ghost use Rattle.std.specs.Prelude.{◌≡◌, OnOk};
 ghost use Rattle.dur_outside.specs.Causes.{HasCause};
-ghost use Rattle.durability.specs.Saying.{IsSaid, wrote};
+ghost use Rattle.dur_rerun.specs.Saying.{IsSaid, wrote};
 
 use dur_outside::{Failed, Sink};
 

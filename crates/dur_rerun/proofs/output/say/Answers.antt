@@ -1,6 +1,6 @@
 use Rattle.std.proofs.Common.{rules, arith}
-use Rattle.durability.proofs.Says.{says_more}
-use Rattle.durability.proofs.say.say.Goals as goal
+use Rattle.dur_rerun.proofs.Says.{says_more}
+use Rattle.dur_rerun.proofs.output.say.Goals as goal
 
 pub loop-rest-preserved : goal.loop-rest-preserved
 loop-rest-preserved g c = record {

@@ -1,0 +1,19 @@
+use Rattle.std.proofs.Common.{◌≤◌, ◌+◌, ◌-◌, ◌^◌, ◌++◌, ℕ, List}
+use Rattle.std.specs.Io.KnownBytes.{Consumes}
+use Rattle.dur_outside.specs.World.{Image}
+use Rattle.dur_rerun.specs.Shown.{total, IsCounted, Shown}
+use Rattle.dur_rerun.proofs.print.print_rest.Given as goal
+
+abbrev pub invariant-pieces : goal.invariant-pieces
+invariant-pieces g l = record {
+  counted : IsCounted l.printer;
+  seen : List ℕ;
+  consumed : Consumes (g.S.Source.left l.fn.input) (g.S.Source.left l.input) seen;
+  shown : (own : List ℕ) (before : ℕ) (octets : List ℕ) (first : Image) → Shown own before octets g.K.Machine.tells first (g.K.Machine.world l.fn.out).now l.fn.printer
+      → Shown own before (octets ++ seen) g.K.Machine.tells first (g.K.Machine.world l.out).now l.printer;
+  later_read : g.S.Source.faults l.fn.input ≤ g.S.Source.faults l.input;
+  later_write : g.K.Sink.sink_faults l.fn.out ≤ g.K.Sink.sink_faults l.out;
+}
+
+abbrev pub decreases-pieces : goal.decreases-pieces
+decreases-pieces g l = 2 ^ 40 + 4096 - total l.printer.feed

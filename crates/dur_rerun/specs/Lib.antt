@@ -1,0 +1,4 @@
+pub mod Line
+pub mod Saying
+pub mod Shown
+pub mod Showing

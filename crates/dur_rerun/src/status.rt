@@ -1,0 +1,36 @@
+//! What became of a run.
+
+use dur_capture::CapFault;
+use dur_qos::PlanKind;
+
+/// What became of a run.
+#[derive(Clone, Copy, Debug, PartialEq, Eq, Drop)]
+pub enum Status {
+    /// The input was read to its end, and all of the text was written.
+    Done,
+    /// The words are no command line.
+    Usage,
+    /// There was not enough memory.
+    OutOfMemory,
+    /// The capture first breaks off with this fault, which is never `OutOfMemory`. The number is its place
+    /// in octets, counted from the capture's first octet.
+    Input(u64, CapFault),
+    /// The source failed.
+    ReadFault,
+    /// The sink for output failed.
+    WriteFault,
+    /// The plan's text first breaks in the line with this number, from 1, with this fault, which is never
+    /// `OutOfMemory`.
+    Plan(u32, PlanKind),
+    /// The line or record that begins at that octet of the input is of a form that is not built yet.
+    NotYet(u64),
+}
+
+/// A status, and the rig that was handed in.
+#[derive(Drop)]
+pub struct Ran<R> {
+    /// What became of the run.
+    pub status: Status,
+    /// The rig.
+    pub rig: R,
+}
