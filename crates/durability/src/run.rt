@@ -50,6 +50,7 @@ fn list<S: Source, R: Rig>(alloc: Global, input: &mut S, rig: &mut R) -> Status
 /// Does what the words ask for.
 fn answer<S: Source, R: Rig>(alloc: Global, words: &[String], input: &mut S, rig: R) -> Ran<R>
     ensures usage { (result.status ≡ Status.Usage) ↔ (IsList (map string_bytes words.now) ⊎ IsShow (map string_bytes words.now) → ⊥) }
+    ensures untouched { result.status ≡ Status.Usage → (input.new ≡ input.old) × (result.rig ≡ rig) }
     ensures end { result.status ≡ Status.Done → IsAtEnd (S.left input.new) }
     ensures read { result.status ≡ Status.ReadFault → Rose (S.faults input.old) (S.faults input.new) }
     ensures write { result.status ≡ Status.WriteFault → Rose (R.sink_faults rig) (R.sink_faults result.rig) }
@@ -108,6 +109,7 @@ pub fn durability<S: Source, R: Rig, E: Sink>(
     err: &mut E,
 ) -> Ran<R>
     ensures usage { (result.status ≡ Status.Usage) ↔ (IsList (map string_bytes words.now) ⊎ IsShow (map string_bytes words.now) → ⊥) }
+    ensures untouched { result.status ≡ Status.Usage → (input.new ≡ input.old) × (result.rig ≡ rig) }
     ensures end { result.status ≡ Status.Done → IsAtEnd (S.left input.new) }
     ensures read { result.status ≡ Status.ReadFault → Rose (S.faults input.old) (S.faults input.new) }
     ensures write { result.status ≡ Status.WriteFault → Rose (R.sink_faults rig) (R.sink_faults result.rig) }
