@@ -3,7 +3,7 @@
 import os
 
 LAYERS = [
-    ("program", [("durability", "command line, listing")]),
+    ("program", [("durability", "command line, listing"), ("dur_rerun", "statuses, show")]),
     ("histories", [("dur_store", "history of a topic"), ("dur_view", "definitions and laws")]),
     ("streams", [("dur_capture", "records of a capture"), ("dur_qos", "plan text"), ("rel_reader", "known numbers")]),
     ("wire", [("rtps_submsg", "submessages"), ("rtps_params", "parameter lists"), ("rtps_message", "facts, keys, messages")]),
@@ -55,7 +55,7 @@ def drawing():
     for line in way(at):
         yield f'<path d="{line}" fill="none" stroke="{WAY}" stroke-width="1.6" marker-end="url(#tip)"/>'
     for row, words in enumerate(("the way of a datagram:", "octets, record, DATA, entry, line")):
-        yield f'<text x="{LEFT + BOX + 40}" y="{42 + row * 16}" fill="{WAY}" font-size="12">{words}</text>'
+        yield f'<text x="{LEFT + 2 * (BOX + GAP)}" y="{42 + row * 16}" fill="{WAY}" font-size="12">{words}</text>'
     yield "</svg>"
 
 
