@@ -16,16 +16,17 @@ mod words;
 use dur_outside::{OutputRig, StdSink, StdSource};
 use dur_rerun::Status;
 use run::durability;
-use status::number;
+use status::{number, say_fault};
 use std::env;
 use std::process::ExitCode;
 
 fn main(rt: HostRuntime) -> ExitCode {
+    let mut err = StdSink::new(rt.stderr());
     let Ok(words) = read_args(&rt) else {
+        say_fault(&mut err, Status::OutOfMemory);
         return ExitCode::from(number(Status::OutOfMemory));
     };
     let mut input = StdSource::new(rt.stdin());
-    let mut err = StdSink::new(rt.stderr());
     let rig = OutputRig::new(StdSink::new(rt.stdout()));
     let ran = durability(rt.alloc(), &words, &mut input, rig, &mut err);
     ExitCode::from(number(ran.status))
