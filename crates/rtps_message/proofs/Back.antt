@@ -1,6 +1,7 @@
 -- What a written message tells.
 use Rattle.std.proofs.Common.{◌≡◌, ℕ, ◌-◌, ◌<◌, ◌≤◌, ◌^◌, ◌||◌, Bool, true, false, List, [], ◌∷◌, ◌++◌, length, take, drop, None, refl, sym, ap, subst, ◌∙◌, arith, inl, inr}
 use Rattle.std.specs.List.{flat_map, AllByRecursion}
+use Rattle.std.specs.Str.{bytes_eq}
 use Rattle.std.proofs.lemmas.Bool.{eq-eqb, le-leb, or_left, or_right}
 use Rattle.std.proofs.lemmas.List.{take_at, drop_at, length-append, take-append-drop}
 use Rattle.dur_base.specs.Goodness.{IsGood, IsPayload}
@@ -20,7 +21,7 @@ use Rattle.rtps_submsg.specs.Writing.{sub_text, IsInRange, IsPayloadOf}
 use Rattle.rtps_message.specs.declared.context.Context.{Context}
 use Rattle.rtps_message.specs.declared.heard.Heard.{Heard}
 use Rattle.rtps_message.specs.declared.heard.End.TheVariants.{Whole}
-use Rattle.rtps_message.specs.Facts.{same, everybody, told_of}
+use Rattle.rtps_message.specs.Facts.{everybody, told_of}
 use Rattle.rtps_message.specs.Messages.{Splits, Hears}
 use Rattle.rtps_message.specs.Written.{opening, message, acknack_subs, heartbeat_subs, sample_subs, marker_subs, status_of, IsSampleData, IsMarkerData, IsWritten, ReadsBack, IsAddressed, TellsOne, sample_raw, marker_raw}
 
@@ -68,13 +69,13 @@ told_one old new prefix to subs n fact len w back range one = λ own a.
 
 -- ---- whom a message is for
 
-same_self : (xs : List ℕ) → same xs xs ≡ true
+same_self : (xs : List ℕ) → bytes_eq xs xs ≡ true
 same_self [] = refl
 same_self (x ∷ xs) = rw (eq-eqb x x refl, same_self xs) refl
 
-for_addressee : (own to : List ℕ) → IsAddressed own to → (same (take 12 to) everybody || same (take 12 to) own) ≡ true
-for_addressee own to (inl e) = or_right (same (take 12 to) everybody) (same (take 12 to) own) (ap (same (take 12 to)) (sym e) ∙ same_self (take 12 to))
-for_addressee own to (inr e) = or_left (same (take 12 to) everybody) (same (take 12 to) own) (ap (λ (t : List ℕ). same t everybody) e)
+for_addressee : (own to : List ℕ) → IsAddressed own to → (bytes_eq (take 12 to) everybody || bytes_eq (take 12 to) own) ≡ true
+for_addressee own to (inl e) = or_right (bytes_eq (take 12 to) everybody) (bytes_eq (take 12 to) own) (ap (bytes_eq (take 12 to)) (sym e) ∙ same_self (take 12 to))
+for_addressee own to (inr e) = or_left (bytes_eq (take 12 to) everybody) (bytes_eq (take 12 to) own) (ap (λ (t : List ℕ). bytes_eq t everybody) e)
 
 -- ---- the four messages
 

@@ -1,6 +1,7 @@
 -- What the submessages of a message tell, one after the other.
 use Rattle.std.specs.Prelude.{◌≡◌, ◌≤◌, ◌-◌, slice_range, ℕ, ◌==◌, ◌&&◌, ◌||◌, Bool, true, false, List, [], ◌∷◌, ◌++◌, length, take, drop, nat_le, is_none, Option, Some, None, if◌then◌else◌}
 use Rattle.std.specs.Option.{option_to_list}
+use Rattle.std.specs.Str.{bytes_eq}
 use Rattle.std.specs.List.{AllByRecursion}
 use Rattle.dur_base.specs.Goodness.{IsGoodRaw}
 use Rattle.dur_base.specs.declared.fact.Fact.{Fact}
@@ -13,19 +14,13 @@ use Rattle.rtps_message.specs.declared.context.Context.{Context}
 
 -- ---- whom a submessage is from and for, and when
 
--- the same octets
-abbrev pub same : List ℕ → List ℕ → Bool
-same [] [] = true
-same (x ∷ xs) (y ∷ ys) = (x == y) && same xs ys
-same _ _ = false
-
 -- the destination that is everybody
 abbrev pub everybody : List ℕ
 everybody = 0 ∷ 0 ∷ 0 ∷ 0 ∷ 0 ∷ 0 ∷ 0 ∷ 0 ∷ 0 ∷ 0 ∷ 0 ∷ 0 ∷ []
 
 -- the destination is everybody or the own prefix
 abbrev pub is_for : List ℕ → Context → Bool
-is_for own c = same c.destination everybody || same c.destination own
+is_for own c = bytes_eq c.destination everybody || bytes_eq c.destination own
 
 -- The source is the header's prefix until an INFO_SRC, the destination everybody until an INFO_DST, and
 -- the time none until an INFO_TS.

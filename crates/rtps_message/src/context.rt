@@ -1,8 +1,9 @@
 //! Whom a submessage is from and for, and when, as it changes along a message.
 
 ghost use Rattle.std.specs.Prelude.{◌≡◌, ◌↔◌, ◌≤◌, ◌-◌, length, Some, IsTrue, IfOk, IfSome, IsSome, slice_range};
+ghost use Rattle.std.specs.Str.{bytes_eq};
 ghost use Rattle.rtps_submsg.specs.Writing.{payload_text};
-ghost use Rattle.rtps_message.specs.Facts.{is_for, start, after, told, data_fact, same, IsPartBefore};
+ghost use Rattle.rtps_message.specs.Facts.{is_for, start, after, told, data_fact, IsPartBefore};
 ghost use Rattle.rtps_message.specs.Messages.{HasHeader};
 
 use dur_base::{Fact, Guid, OutOfMemory, Payload, Prefix, Raw, Ticks};
@@ -43,7 +44,7 @@ pub fn begin(bytes: &[u8]) -> Option<Context>
 }
 
 fn is_same(a: &[u8; 12], b: &[u8; 12]) -> bool
-    ensures { result ≡ same a.now b.now }
+    ensures { result ≡ bytes_eq a.now b.now }
 {
     *a == *b
 }
