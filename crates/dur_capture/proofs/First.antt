@@ -15,7 +15,7 @@ use Rattle.dur_capture.proofs.Settled.{one_break}
 use Rattle.dur_capture.proofs.Runs.{capture_read}
 
 -- the octets up to the limit are the records, and what lies within the limit of what is left
-within_splits : (before : ℕ) (octets : List ℕ) (rs : List Record) (f : Feeding) → Feeds before octets rs f → take (2 ^ 40 - before) octets ≡ flat_map record_text rs ++ within f
+pub within_splits : (before : ℕ) (octets : List ℕ) (rs : List Record) (f : Feeding) → Feeds before octets rs f → take (2 ^ 40 - before) octets ≡ flat_map record_text rs ++ within f
 within_splits before octets rs f fed =
     let handed = flat_map record_text rs in
     let len : length handed ≡ f.taken = omega (arith, ap length fed.splits.parts, length-append handed f.left, fed.count) in
@@ -23,7 +23,7 @@ within_splits before octets rs f fed =
     ∙ take-append_past handed f.left (2 ^ 40 - (f.before + f.taken)) (2 ^ 40 - before) (omega (arith, len, fed.start, fed.within))
 
 -- where a feed breaks off, no record stands within the limit
-break_stuck : (e : CapFault) (f : Feeding) (ended : Bool) → Breaks f ended e → IsStuck (within f)
+pub break_stuck : (e : CapFault) (f : Feeding) (ended : Bool) → Breaks f ended e → IsStuck (within f)
 break_stuck (LongDatagram place) f ended b = long_stuck (within f) b.0
 break_stuck (EndsInside place) f ended b = part_stuck (within f) (subst IsPart (sym (take_all (2 ^ 40 - (f.before + f.taken)) f.left (omega (arith, b.1)))) b.0)
 break_stuck (TooLong place) f ended b = part_stuck (within f) b.0

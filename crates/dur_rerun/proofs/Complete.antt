@@ -39,13 +39,13 @@ one_capture_break input a b x y =
     let same : x.n ≡ y.n = one_end input x.plan y.plan x.n y.n x.plan_is y.plan_is in
     one_first a b y.n (drop y.n input) true (subst (λ (k : ℕ). BreaksAt k (drop k input) true a) same x.breaks) y.breaks
 
-one_place : (a b : CapFault) (p q : ℕ) → a ≡ b → place_at a ≡ Some p → place_at b ≡ Some q → Input p a ≡ Input q b
+pub one_place : (a b : CapFault) (p q : ℕ) → a ≡ b → place_at a ≡ Some p → place_at b ≡ Some q → Input p a ≡ Input q b
 one_place a b p q same x y =
     let both : Some p ≡ Some q = sym x ∙ ap place_at same ∙ y in
     let places : p ≡ q = cc in
     cc
 
-one_plan_break : (input : List ℕ) (line at : ℕ) (k j : PlanKind) → PlanBreaks input line k → PlanBreaks input at j → BadPlan line k ≡ BadPlan at j
+pub one_plan_break : (input : List ℕ) (line at : ℕ) (k j : PlanKind) → PlanBreaks input line k → PlanBreaks input at j → BadPlan line k ≡ BadPlan at j
 one_plan_break input line at k j a b =
     let same = one_fault input (record { line = line; kind = k }) (record { line = at; kind = j }) a b in
     let lines : line ≡ at = ap (λ (f : PlanFault). f.line) same in

@@ -1,3 +1,9 @@
+pub mod Admits
+pub mod Handing
+pub mod ListComplete
+pub mod Lists
+pub mod OneAnswer
+pub mod OneWay
 pub mod Says
 pub mod Shows
 pub mod Rest

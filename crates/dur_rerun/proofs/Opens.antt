@@ -1,9 +1,8 @@
 -- The plan in front of a capture.
-use Rattle.std.proofs.Common.{◌≡◌, ℕ, suc, ◌+◌, ◌≤◌, ◌^◌, List, [], ◌∷◌, ◌++◌, length, drop, Bool, true, cond, Option, Some, None, Err, refl, sym, ap, subst, ◌∙◌, append-nil, length-append, arith, ◌⊎◌, inl, inr}
+use Rattle.std.proofs.Common.{◌≡◌, ℕ, suc, ◌+◌, ◌≤◌, ◌^◌, List, [], ◌∷◌, ◌++◌, length, take, drop, Bool, true, cond, Option, Some, None, Err, refl, sym, ap, subst, ◌∙◌, append-nil, length-append, arith, ◌⊎◌, inl, inr}
 use Rattle.std.specs.Prelude.{IfSome}
 use Rattle.std.specs.Io.KnownBytes.{Consumes, IsAtEnd}
 use Rattle.std.proofs.lemmas.Bool.{cases_Bool}
-use Rattle.dur_qos.specs.declared.plan.Plan.{Plan}
 use Rattle.dur_qos.specs.declared.fault.PlanFault.{PlanFault}
 use Rattle.dur_qos.specs.declared.fault.PlanKind.TheVariants.{OutOfMemory}
 use Rattle.dur_qos.specs.Reading.{Reading, start, after, taken, octet, is_done, RunsOut}
@@ -11,9 +10,10 @@ use Rattle.dur_qos.specs.Text.{PlanText, IsFault}
 use Rattle.dur_qos.proofs.Runs.{after_append, taken_append}
 use Rattle.dur_qos.proofs.Texts.{no_further}
 use Rattle.dur_qos.proofs.Verdicts.{ended_plan, push_says, finish_says}
-use Rattle.dur_rerun.specs.declared.print.Printer.{Printer}
+use Rattle.bytes.proofs.Ranges.{take-append_past}
+use Rattle.dur_rerun.specs.declared.open.Opened.{Opened}
 use Rattle.dur_rerun.specs.declared.open.NoPlan.TheVariants as no
-use Rattle.dur_rerun.specs.Shown.{Begins, Opens, Ended}
+use Rattle.dur_rerun.specs.Opened.{Begins, Opens, Ended}
 use Rattle.dur_rerun.proofs.Rest.{told, none_left}
 
 pub taken_most : (r : Reading) (bs : List ℕ) → taken r bs ≤ length bs
@@ -30,32 +30,33 @@ drop_past (x ∷ xs) ys n =
     ap (λ (m : ℕ). drop m (x ∷ (xs ++ ys))) one ∙ drop_past xs ys n
 
 -- a reading that has ended behind these octets, of which it took so many of the last piece
-pub opens_inside : (epoch : ℕ) (seen piece rest : List ℕ) (r g : Reading) (n before at : ℕ) (plan : Plan) (p : Printer)
+pub opens_inside : (seen piece text : List ℕ) (r g : Reading) (n before at : ℕ) (o : Opened)
     → r ≡ after start seen → before ≡ length seen → taken start seen ≡ length seen → g ≡ after r piece → n ≡ taken r piece → at ≡ before + n
-    → (g.fault ≡ None) × (g.ended ≡ true) → g.plan ≡ Some plan → rest ≡ drop n piece → Begins epoch plan at rest p → at ≤ 2 ^ 40 → Opens epoch (seen ++ piece) p
-opens_inside epoch seen piece rest r g n before at plan p reads size all step count at_is ended plan_is rest_is begins within =
+    → (g.fault ≡ None) × (g.ended ≡ true) → g.plan ≡ Some o.plan → text ≡ seen → Begins (text ++ take n piece) at (drop n piece) o → at ≤ 2 ^ 40 → Opens (seen ++ piece) o
+opens_inside seen piece text r g n before at o reads size all step count at_is ended plan_is text_is begins within =
     let whole : g ≡ after start (seen ++ piece) = step ∙ ap (λ (x : Reading). after x piece) reads ∙ sym (after_append start seen piece) in
-    let t = ended_plan (seen ++ piece) plan (ap (λ (x : Reading). x.fault) (sym whole) ∙ ended.0) (ap (λ (x : Reading). x.ended) (sym whole) ∙ ended.1) (ap (λ (x : Reading). x.plan) (sym whole) ∙ plan_is) in
+    let t = ended_plan (seen ++ piece) o.plan (ap (λ (x : Reading). x.fault) (sym whole) ∙ ended.0) (ap (λ (x : Reading). x.ended) (sym whole) ∙ ended.1) (ap (λ (x : Reading). x.plan) (sym whole) ∙ plan_is) in
     let m : ℕ = t.0 in
-    let text : PlanText (seen ++ piece) plan m = t.1 in
+    let text_to : PlanText (seen ++ piece) o.plan m = t.1 in
     let same : taken r piece ≡ taken (after start seen) piece = ap (λ (x : Reading). taken x piece) reads in
-    let place : at ≡ m = omega (arith, no_further (seen ++ piece) plan m text, taken_append start seen piece, same, all, size, count, at_is) in
-    let dropped : drop n piece ≡ drop at (seen ++ piece) = (let where_is : length seen + n ≡ at = omega (arith, at_is, size) in sym (drop_past seen piece n) ∙ ap (λ (k : ℕ). drop k (seen ++ piece)) where_is) in
+    let place : at ≡ m = omega (arith, no_further (seen ++ piece) o.plan m text_to, taken_append start seen piece, same, all, size, count, at_is) in
+    let where_is : length seen + n ≡ at = omega (arith, at_is, size) in
+    let dropped : drop n piece ≡ drop at (seen ++ piece) = sym (drop_past seen piece n) ∙ ap (λ (k : ℕ). drop k (seen ++ piece)) where_is in
+    let front : seen ++ take n piece ≡ take at (seen ++ piece) = sym (take-append_past seen piece n at (sym where_is)) in
     record {
-      plan = plan;
       n = at;
-      plan_is = subst (PlanText (seen ++ piece) plan) (sym place) text;
-      begins = subst (λ (l : List ℕ). Begins epoch plan at l p) (rest_is ∙ dropped) begins;
+      plan_is = subst (PlanText (seen ++ piece) o.plan) (sym place) text_to;
+      begins = record { text_is = begins.text_is ∙ ap (λ (t : List ℕ). t ++ take n piece) text_is ∙ front; feed_is = begins.feed_is ∙ ap (λ (l : List ℕ). record { before = at; taken = 0; left = l; fault = None }) dropped };
       within = within;
     }
 
 -- a reading that has ended at the end of the input
-pub opens_last : (epoch : ℕ) (seen : List ℕ) (r : Reading) (before : ℕ) (plan : Plan) (p : Printer)
+pub opens_last : (seen text : List ℕ) (r : Reading) (before : ℕ) (o : Opened)
     → r ≡ after start seen → before ≡ length seen → taken start seen ≡ length seen
-    → (r.fault ≡ None) × (r.ended ≡ true) → r.plan ≡ Some plan → Begins epoch plan before [] p → before ≤ 2 ^ 40 → Opens epoch seen p
-opens_last epoch seen r before plan p reads size all ended plan_is begins within =
-    subst (λ (l : List ℕ). Opens epoch l p) (append-nil seen)
-    (opens_inside epoch seen [] [] r r 0 before before plan p reads size all refl refl (omega arith) ended plan_is refl begins within)
+    → (r.fault ≡ None) × (r.ended ≡ true) → r.plan ≡ Some o.plan → text ≡ seen → Begins (text ++ []) (before + 0) [] o → before ≤ 2 ^ 40 → Opens seen o
+opens_last seen text r before o reads size all ended plan_is text_is begins within =
+    subst (λ (l : List ℕ). Opens l o) (append-nil seen)
+    (opens_inside seen [] text r r 0 before (before + 0) o reads size all refl refl refl ended plan_is text_is begins (omega (arith, within)))
 
 -- a piece more, all of which was taken
 pub piece_taken : (seen piece : List ℕ) (r : Reading) (n count : ℕ) → r ≡ after start seen → taken start seen ≡ length seen → n ≡ taken r piece → length piece ≡ count → count ≤ n
@@ -94,3 +95,6 @@ memory_told (Some all) e fault memory is = let same : e ≡ fault = cc in inl (s
 
 pub sized : (seen piece : List ℕ) (before count : ℕ) → before ≡ length seen → length piece ≡ count → before + count ≡ length (seen ++ piece)
 sized seen piece before count size len = omega (arith, size, len, length-append seen piece)
+
+pub text_more : (seen old new piece : List ℕ) → old ≡ seen → new ≡ old ++ piece → new ≡ seen ++ piece
+text_more seen old new piece is step = step ∙ ap (λ (l : List ℕ). l ++ piece) is

@@ -1,12 +1,14 @@
 -- What was seen of a source's octets, and all of them.
-use Rattle.std.proofs.Common.{◌≡◌, ℕ, List, [], ◌++◌, take, Option, Some, None, refl, sym, ap, subst, ◌∙◌, append_assoc, append-nil, true, false}
+use Rattle.std.proofs.Common.{◌≡◌, ℕ, List, [], ◌++◌, take, Option, Some, None, refl, sym, ap, subst, ◌∙◌, append_assoc, append-nil, Bool, true, false}
 use Rattle.std.specs.Prelude.{IfSome}
 use Rattle.std.specs.Io.KnownBytes.{Consumes, IsAtEnd}
 use Rattle.std.proofs.KnownBytes.{Consumes-trans}
 use Rattle.dur_outside.specs.World.{Image}
 use Rattle.dur_capture.specs.declared.fault.CapFault.{CapFault}
-use Rattle.dur_capture.specs.Whole.{IsFault}
-use Rattle.dur_capture.proofs.Runs.{stays_fault}
+use Rattle.dur_capture.specs.declared.record.Record.{Record}
+use Rattle.dur_capture.specs.Whole.{Feeds, IsFault}
+use Rattle.dur_capture.proofs.Runs.{takes_octets, is_fault, stays_fault}
+use Rattle.dur_rerun.specs.Records.{given, BreaksOff}
 use Rattle.dur_rerun.specs.Shown.{Shown, ShownPart, ShownAll}
 use Rattle.dur_capture.specs.Feeding.{Feeding}
 use Rattle.dur_rerun.specs.declared.print.Printer.{Printer}
@@ -58,3 +60,20 @@ pub shown_seen : (own : List ℕ) (before : ℕ) (octets seen piece : List ℕ) 
 shown_seen own before octets seen piece tells first now p g shown is =
     subst (λ (t : List ℕ). Shown own before t tells first now (record p { feed = g })) (append_assoc octets seen piece)
     (shown_octets own before (octets ++ seen) piece tells first now p (record p { feed = g }) shown is refl refl)
+
+-- ---- a feed that stands for the octets seen
+
+any_fault : (fault : CapFault) (known now : Option (List ℕ)) (seen : List ℕ) (before : ℕ) (octets : List ℕ) (ended : Bool) → Consumes known now seen → (ended ≡ true → IsAtEnd now)
+    → IsFault before (octets ++ seen) ended fault → IfSome known (λ tail. IsFault before (octets ++ tail) true fault)
+any_fault fault known now seen before octets false consumed end breaks = fault_told fault known now seen before octets consumed breaks
+any_fault fault known now seen before octets true consumed end breaks = last_fault_told fault known now seen before octets consumed (end refl) breaks
+
+-- where it breaks off, that is the first break of all octets
+pub feed_breaks : (e fault : CapFault) (known mid now : Option (List ℕ)) (seen : List ℕ) (before : ℕ) (octets : List ℕ) (rs : List Record) (f : Feeding) → Consumes known mid seen → Feeds before (octets ++ seen) rs f → BreaksOff mid now f e
+    → e ≡ fault → IfSome known (λ tail. IsFault before (octets ++ tail) true fault)
+feed_breaks e fault known mid now seen before octets rs f consumed feeds b same =
+    let fed = takes_octets before (octets ++ seen) rs f b.seen feeds in
+    let breaks = is_fault e before ((octets ++ seen) ++ b.seen) b.ended rs (given b.seen f) b.new fed b.stops in
+    let all : IsFault before (octets ++ (seen ++ b.seen)) b.ended e = subst (λ (t : List ℕ). IsFault before t b.ended e) (append_assoc octets seen b.seen) breaks in
+    any_fault fault known now (seen ++ b.seen) before octets b.ended (Consumes-trans known mid now seen b.seen consumed b.consumed) b.end
+    (subst (IsFault before (octets ++ (seen ++ b.seen)) b.ended) same all)

@@ -15,13 +15,15 @@ use Rattle.dur_qos.specs.declared.fault.PlanKind.{PlanKind}
 use Rattle.dur_qos.specs.declared.fault.PlanFault.{PlanFault}
 use Rattle.dur_qos.specs.declared.fault.PlanKind.TheVariants as kind
 use Rattle.dur_qos.specs.Text.{PlanText, line_text, IsFault}
+use Rattle.dur_rerun.specs.declared.open.Opened.{Opened}
 use Rattle.dur_rerun.specs.declared.print.Printer.{Printer}
-use Rattle.dur_rerun.specs.Shown.{own_prefix, Begins, Opens, Shown, ShownPart, ShownAll}
+use Rattle.dur_rerun.specs.Opened.{Opens}
+use Rattle.dur_rerun.specs.Shown.{own_prefix, Shown, ShownPart, ShownAll}
 use Rattle.dur_rerun.proofs.Shows.{said_all}
 use Rattle.dur_rerun.specs.Showing.{WritesAll, WritesAtMost, CaptureBreaks, PlanBreaks, place_at}
 
 -- what follows a plan does not change it
-plan_more : (seen more : List ℕ) (plan : Plan) (n : ℕ) → PlanText seen plan n → PlanText (seen ++ more) plan n
+pub plan_more : (seen more : List ℕ) (plan : Plan) (n : ℕ) → PlanText seen plan n → PlanText (seen ++ more) plan n
 plan_more seen more plan n t = record {
   count = t.count;
   before = t.before;
@@ -40,54 +42,55 @@ plan_more seen more plan n t = record {
   size = omega (arith, t.size, length-append t.more more, length-append seen more);
 }
 
-behind_plan : (seen more : List ℕ) (plan : Plan) (n : ℕ) → PlanText seen plan n → drop n seen ++ more ≡ drop n (seen ++ more)
+pub behind_plan : (seen more : List ℕ) (plan : Plan) (n : ℕ) → PlanText seen plan n → drop n seen ++ more ≡ drop n (seen ++ more)
 behind_plan seen more plan n t = sym (drop-append-le n seen more (omega (arith, t.size)))
 
 -- nothing is printed yet
-pub shown_first : (epoch : ℕ) (plan : Plan) (n : ℕ) (octets : List ℕ) (p : Printer) (tells : Type 0) (now : Image) → Begins epoch plan n octets p → n ≤ 2 ^ 40 → Shown (own_prefix epoch plan) n octets tells now now p
-shown_first epoch plan n octets p tells now begins within = record {
+pub shown_first : (own : List ℕ) (n : ℕ) (octets : List ℕ) (p : Printer) (tells : Type 0) (now : Image) → p.own ≡ own → p.feed ≡ record { before = n; taken = 0; left = octets; fault = None } → p.count ≡ 0 → n ≤ 2 ^ 40
+    → Shown own n octets tells now now p
+shown_first own n octets p tells now own_is feed_is count_is within = record {
   records = [];
   text = [];
-  feeds = subst (λ (f : Feeding). Feeds n octets [] f) (sym begins.feed_is)
+  feeds = subst (λ (f : Feeding). Feeds n octets [] f) (sym feed_is)
       (record { splits = record { parts = refl; each = tt }; count = omega arith; start = refl; within = omega (arith, within); sound = refl });
   shows = refl;
-  own_is = begins.own_is;
-  count_is = begins.count_is;
+  own_is = own_is;
+  count_is = count_is;
   written = λ t. ap (λ (x : List ℕ). record now { written = x }) (grind (arith, common_steps));
 }
 
-behind : (known mid : Option (List ℕ)) (seen : List ℕ) (P Q : List ℕ → Type 0) → Consumes known mid seen → IfSome mid Q → ((tail : List ℕ) → Q tail → P (seen ++ tail)) → IfSome known P
+pub behind : (known mid : Option (List ℕ)) (seen : List ℕ) (P Q : List ℕ → Type 0) → Consumes known mid seen → IfSome mid Q → ((tail : List ℕ) → Q tail → P (seen ++ tail)) → IfSome known P
 behind None mid seen P Q consumed holds leads = tt
 behind (Some all) None seen P Q consumed holds leads = absurd consumed
 behind (Some all) (Some tail) seen P Q consumed holds leads = subst P (sym consumed) (leads tail holds)
 
-pub all_written : (known mid : Option (List ℕ)) (seen : List ℕ) (epoch : ℕ) (p : Printer) (o : Opens epoch seen p) (tells : Type 0) (old new : Image) → Consumes known mid seen
-    → IfSome mid (λ tail. ShownAll (own_prefix epoch o.plan) o.n (drop o.n seen ++ tail) tells old new)
+pub all_written : (known mid : Option (List ℕ)) (seen : List ℕ) (epoch : ℕ) (p : Opened) (o : Opens seen p) (tells : Type 0) (old new : Image) → Consumes known mid seen
+    → IfSome mid (λ tail. ShownAll (own_prefix epoch p.plan) o.n (drop o.n seen ++ tail) tells old new)
     → IfSome known (λ input. WritesAll epoch input tells old new)
 all_written known mid seen epoch p o tells old new consumed shown =
-    behind known mid seen (λ input. WritesAll epoch input tells old new) (λ tail. ShownAll (own_prefix epoch o.plan) o.n (drop o.n seen ++ tail) tells old new) consumed shown (λ tail s. record {
-      plan = o.plan;
+    behind known mid seen (λ input. WritesAll epoch input tells old new) (λ tail. ShownAll (own_prefix epoch p.plan) o.n (drop o.n seen ++ tail) tells old new) consumed shown (λ tail s. record {
+      plan = p.plan;
       n = o.n;
       records = s.records;
       text = s.text;
-      plan_is = plan_more seen tail o.plan o.n o.plan_is;
-      capture = subst (λ (x : List ℕ). CaptureWithin o.n x s.records) (behind_plan seen tail o.plan o.n o.plan_is) s.whole;
+      plan_is = plan_more seen tail p.plan o.n o.plan_is;
+      capture = subst (λ (x : List ℕ). CaptureWithin o.n x s.records) (behind_plan seen tail p.plan o.n o.plan_is) s.whole;
       shows = s.shows;
       written = s.written;
     })
 
-pub part_written : (known mid : Option (List ℕ)) (seen : List ℕ) (epoch : ℕ) (p : Printer) (o : Opens epoch seen p) (tells : Type 0) (old new : Image) → Consumes known mid seen
-    → IfSome mid (λ tail. ShownPart (own_prefix epoch o.plan) o.n (drop o.n seen ++ tail) tells old new)
+pub part_written : (known mid : Option (List ℕ)) (seen : List ℕ) (epoch : ℕ) (p : Opened) (o : Opens seen p) (tells : Type 0) (old new : Image) → Consumes known mid seen
+    → IfSome mid (λ tail. ShownPart (own_prefix epoch p.plan) o.n (drop o.n seen ++ tail) tells old new)
     → IfSome known (λ input. WritesAtMost epoch input tells old new)
 part_written known mid seen epoch p o tells old new consumed shown =
-    behind known mid seen (λ input. WritesAtMost epoch input tells old new) (λ tail. ShownPart (own_prefix epoch o.plan) o.n (drop o.n seen ++ tail) tells old new) consumed shown (λ tail s. inr (record {
-      plan = o.plan;
+    behind known mid seen (λ input. WritesAtMost epoch input tells old new) (λ tail. ShownPart (own_prefix epoch p.plan) o.n (drop o.n seen ++ tail) tells old new) consumed shown (λ tail s. inr (record {
+      plan = p.plan;
       n = o.n;
       records = s.records;
       text = s.text;
       feed = s.feed;
-      plan_is = plan_more seen tail o.plan o.n o.plan_is;
-      read = subst (λ (x : List ℕ). Feeds o.n x s.records s.feed) (behind_plan seen tail o.plan o.n o.plan_is) s.feeds;
+      plan_is = plan_more seen tail p.plan o.n o.plan_is;
+      read = subst (λ (x : List ℕ). Feeds o.n x s.records s.feed) (behind_plan seen tail p.plan o.n o.plan_is) s.feeds;
       shows = s.shows;
       said = s.said;
     }))
@@ -99,14 +102,14 @@ named_breaks (EndsInside at) place n octets named h = h
 named_breaks (TooLong at) place n octets named h = h
 named_breaks OutOfMemory place n octets named h = absurd cc
 
-pub capture_breaks : (known mid : Option (List ℕ)) (seen : List ℕ) (epoch : ℕ) (p : Printer) (o : Opens epoch seen p) (e fault : CapFault) (place : ℕ) → Consumes known mid seen → fault ≡ e → place_at fault ≡ Some place
+pub capture_breaks : (known mid : Option (List ℕ)) (seen : List ℕ) (p : Opened) (o : Opens seen p) (e fault : CapFault) (place : ℕ) → Consumes known mid seen → fault ≡ e → place_at fault ≡ Some place
     → IfSome mid (λ tail. IsCaptureFault o.n (drop o.n seen ++ tail) true e) → IfSome known (λ input. CaptureBreaks input fault)
-capture_breaks known mid seen epoch p o e fault place consumed same named told =
+capture_breaks known mid seen p o e fault place consumed same named told =
     behind known mid seen (λ input. CaptureBreaks input fault) (λ tail. IsCaptureFault o.n (drop o.n seen ++ tail) true e) consumed told (λ tail h. record {
-      plan = o.plan;
+      plan = p.plan;
       n = o.n;
-      plan_is = plan_more seen tail o.plan o.n o.plan_is;
-      breaks = subst (λ (x : List ℕ). BreaksAt o.n x true fault) (behind_plan seen tail o.plan o.n o.plan_is) (named_breaks fault place o.n (drop o.n seen ++ tail) named (subst (IsCaptureFault o.n (drop o.n seen ++ tail) true) (sym same) h));
+      plan_is = plan_more seen tail p.plan o.n o.plan_is;
+      breaks = subst (λ (x : List ℕ). BreaksAt o.n x true fault) (behind_plan seen tail p.plan o.n o.plan_is) (named_breaks fault place o.n (drop o.n seen ++ tail) named (subst (IsCaptureFault o.n (drop o.n seen ++ tail) true) (sym same) h));
     })
 
 -- a fault of the plan with a name

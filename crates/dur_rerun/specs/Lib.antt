@@ -1,4 +1,12 @@
+pub mod Admitted
+pub mod Admitting
 pub mod Line
+pub mod ListLine
+pub mod Listed
+pub mod Listing
+pub mod OneTopic
+pub mod Opened
+pub mod Records
 pub mod Saying
 pub mod Shown
 pub mod Showing

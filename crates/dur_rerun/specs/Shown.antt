@@ -1,15 +1,11 @@
 -- What has been printed of a capture of which some octets have come.
-use Rattle.std.specs.Prelude.{◌≡◌, ℕ, ◌+◌, ◌≤◌, ◌^◌, ◌⊎◌, List, ◌++◌, length, drop, false, Some, None}
+use Rattle.std.specs.Prelude.{◌≡◌, ℕ, ◌+◌, ◌≤◌, ◌^◌, List, ◌++◌, length}
 use Rattle.std.specs.Int.{w32, to_be_bytes}
 use Rattle.dur_outside.specs.World.{Image}
 use Rattle.dur_capture.specs.declared.record.Record.{Record}
 use Rattle.dur_capture.specs.Feeding.{Feeding}
 use Rattle.dur_capture.specs.Whole.{Feeds, CaptureWithin}
 use Rattle.dur_qos.specs.declared.plan.Plan.{Plan}
-use Rattle.dur_qos.specs.declared.fault.PlanKind.TheVariants.{Word}
-use Rattle.dur_qos.specs.declared.fault.PlanFault.{PlanFault}
-use Rattle.dur_qos.specs.Reading.{Reading}
-use Rattle.dur_qos.specs.Text.{PlanText}
 use Rattle.rtps_message.specs.declared.heard.Heard.{Heard}
 use Rattle.rtps_message.specs.Messages.{Hears}
 use Rattle.dur_rerun.specs.declared.print.Printer.{Printer}
@@ -19,24 +15,6 @@ use Rattle.dur_rerun.specs.Saying.{IsSaid, wrote}
 -- the prefix of the service: the plan's eight octets and the epoch
 abbrev pub own_prefix : ℕ → Plan → List ℕ
 own_prefix epoch plan = plan.prefix ++ to_be_bytes w32 epoch
-
--- a printer that begins behind so many octets of plan, with these octets of the capture
-pub record Begins (epoch : ℕ) (plan : Plan) (before : ℕ) (octets : List ℕ) (p : Printer) : Type 0 where
-  pub own_is : p.own ≡ own_prefix epoch plan
-  pub feed_is : p.feed ≡ record { before = before; taken = 0; left = octets; fault = None }
-  pub count_is : p.count ≡ 0
-
--- the octets seen are the text of a plan, and what follows it is left to the printer
-pub record Opens (epoch : ℕ) (seen : List ℕ) (p : Printer) : Type 0 where
-  pub plan : Plan
-  pub n : ℕ
-  pub plan_is : PlanText seen plan n
-  pub begins : Begins epoch plan n (drop n seen) p
-  pub within : n ≤ 2 ^ 40
-
--- a reading of a plan was told this fault, or ends in the line that has begun
-abbrev pub Ended : Reading → PlanFault → Type 0
-Ended r e = (r.fault ≡ Some e) ⊎ ((r.fault ≡ None) × (r.ended ≡ false) × (e ≡ record { line = r.line; kind = Word }))
 
 -- how many octets of input came
 abbrev pub total : Feeding → ℕ

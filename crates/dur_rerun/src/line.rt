@@ -11,7 +11,8 @@ use rtps_message::{End, Heard};
 use rtps_params::ListKind;
 use rtps_submsg::SubKind;
 
-fn append(out: &mut Vec<u8>, piece: &[u8]) -> Result<(), OutOfMemory>
+/// Appends these octets.
+pub fn append(out: &mut Vec<u8>, piece: &[u8]) -> Result<(), OutOfMemory>
     ensures { OnOk result (out.new.items ≡ out.old.items ++ piece.now) }
 {
     match out.extend_from_slice(piece) {
@@ -20,7 +21,8 @@ fn append(out: &mut Vec<u8>, piece: &[u8]) -> Result<(), OutOfMemory>
     }
 }
 
-fn append_number(out: &mut Vec<u8>, number: u64) -> Result<(), OutOfMemory>
+/// Appends the decimal digits of a number.
+pub fn append_number(out: &mut Vec<u8>, number: u64) -> Result<(), OutOfMemory>
     ensures { OnOk result (out.new.items ≡ out.old.items ++ decimal number) }
 {
     let mut digits = Buffer::new();

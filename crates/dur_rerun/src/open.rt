@@ -1,20 +1,17 @@
 //! Reading the plan in front of a capture.
 
-ghost use Rattle.std.specs.Prelude.{◌≡◌, ◌≤◌, ◌^◌, ◌+◌, ◌++◌, ◌⊎◌, ℕ, List, Some, None, true, IfOk, OnOk, IfErr, IfSome};
-ghost use Rattle.std.specs.Int.{w32, to_be_bytes};
+ghost use Rattle.std.specs.Prelude.{◌≡◌, ◌≤◌, ◌^◌, ◌+◌, ◌++◌, ◌⊎◌, ℕ, List, length, take, drop, Some, None, true, IfOk, OnOk, IfErr, IfSome};
 ghost use Rattle.std.specs.Io.KnownBytes.{Consumes};
 ghost use Rattle.dur_outside.specs.Causes.{Rose};
 ghost use Rattle.dur_qos.specs.declared.fault.PlanFault.{PlanFault};
 ghost use Rattle.dur_qos.specs.declared.fault.PlanKind.{PlanKind};
-ghost use Rattle.dur_qos.specs.declared.plan.Plan.{Plan};
 ghost use Rattle.dur_qos.specs.Text.{IsFault};
-ghost use Rattle.dur_rerun.specs.Shown.{IsCounted, Begins, Opens, Ended};
+ghost use Rattle.dur_rerun.specs.Opened.{Begins, Opens, Ended};
 
-use crate::print::Printer;
-use dur_base::Prefix;
+use dur_base::Octets;
 use dur_capture::Feed;
 use dur_outside::Source;
-use dur_qos::{PlanFault, PlanKind, PlanReader};
+use dur_qos::{Plan, PlanFault, PlanKind, PlanReader};
 use std::alloc::Global;
 
 /// The octets of input that count, but for the last piece: no plan has so many.
@@ -29,15 +26,15 @@ pub enum NoPlan {
     Plan(PlanFault),
 }
 
-/// The prefix of the service: the plan's octets and the epoch.
-fn own_prefix(prefix: [u8; 8], epoch: u32) -> Prefix
-    ensures { result ≡ prefix ++ to_be_bytes w32 epoch }
-{
-    let mut own = [0; 12];
-    let (front, back) = own.split_at_mut(8);
-    front.copy_from_slice(&prefix);
-    back.copy_from_slice(&epoch.to_be_bytes());
-    Prefix(own)
+/// A plan, and what came behind it.
+#[derive(Drop)]
+pub struct Opened {
+    /// The plan.
+    pub plan: Plan,
+    /// The octets of its text.
+    pub text: Octets,
+    /// The octets that came behind it.
+    pub feed: Feed,
 }
 
 /// Want of memory while a plan is read.
@@ -50,44 +47,44 @@ fn no_memory() -> PlanFault
     }
 }
 
-/// The printer for the capture that begins with `rest`, behind a plan of `before` octets.
+/// What a reading of a plan ends with, of which so many octets of the last piece were taken.
 fn begin(
     alloc: Global,
     reader: PlanReader,
-    epoch: u32,
+    text: Octets,
     before: u64,
-    rest: &[u8],
-) -> Result<Printer, PlanFault>
-    requires { before ≤ 2 ^ 40 }
-    ensures ok { IfOk result (λ p. (plan : Plan) × (reader.plan ≡ Some plan) × Begins epoch plan before rest.now p) }
-    ensures counted { IfOk result IsCounted }
+    piece: &[u8],
+    taken: usize,
+) -> Result<Opened, PlanFault>
+    requires within { taken ≤ length piece.now }
+    requires small { before + taken ≤ 2 ^ 40 }
+    ensures ok { IfOk result (λ o. (reader.plan ≡ Some o.plan) × Begins (text ++ take taken piece.now) (before + taken) (drop taken piece.now) o) }
     ensures ended { OnOk result ((reader.fault ≡ None) × (reader.ended ≡ true)) }
     ensures err { IfErr result (λ e. (e.kind ≡ PlanKind.OutOfMemory) ⊎ Ended reader e) }
 {
     let plan = reader.finish()?;
-    let mut feed = Feed::new(alloc, before);
-    match feed.push(rest) {
+    let (front, rest) = piece.split_at(taken);
+    let mut text = text;
+    let mut feed = Feed::new(alloc, before + taken as u64);
+    match text.append(front) {
         Ok(()) => {}
         Err(_) => return Err(no_memory()),
     }
-    Ok(Printer {
-        own: own_prefix(plan.prefix, epoch),
-        feed,
-        count: 0,
-        line: Vec::new(alloc),
-    })
+    match feed.push(rest) {
+        Ok(()) => Ok(Opened { plan, text, feed }),
+        Err(_) => Err(no_memory()),
+    }
 }
 
-/// Reads the plan in front of a capture, and hands out a printer for what follows it. What was read
-/// behind the plan is left to the printer.
-pub fn open_plan<S: Source>(alloc: Global, epoch: u32, input: &mut S) -> Result<Printer, NoPlan>
-    ensures opens { IfOk result (λ p. (seen : List ℕ) × Consumes (S.left input.old) (S.left input.new) seen × Opens epoch seen p) }
-    ensures counted { IfOk result IsCounted }
+/// Reads the plan in front of a capture. What was read behind the plan is left in its feed.
+pub fn open_plan<S: Source>(alloc: Global, input: &mut S) -> Result<Opened, NoPlan>
+    ensures opens { IfOk result (λ o. (seen : List ℕ) × Consumes (S.left input.old) (S.left input.new) seen × Opens seen o) }
     ensures read { IfErr result (λ e. e ≡ NoPlan.ReadFault → Rose (S.faults input.old) (S.faults input.new)) }
     ensures fault { IfErr result (λ e. (fault : PlanFault) → e ≡ NoPlan.Plan fault → IfSome (S.left input.old) (λ bytes. (fault.kind ≡ PlanKind.OutOfMemory) ⊎ IsFault bytes fault)) }
     ensures later { S.faults input.old ≤ S.faults input.new }
 {
     let mut reader = PlanReader::new(alloc);
+    let mut text = Octets::new(alloc);
     let mut before = 0;
     let mut piece = [0; 4096];
     'pieces: while before <= MOST {
@@ -96,8 +93,8 @@ pub fn open_plan<S: Source>(alloc: Global, epoch: u32, input: &mut S) -> Result<
             Err(_) => return Err(NoPlan::ReadFault),
         };
         if count == 0 {
-            return match begin(alloc, reader, epoch, before, b"") {
-                Ok(printer) => Ok(printer),
+            return match begin(alloc, reader, text, before, b"", 0) {
+                Ok(opened) => Ok(opened),
                 Err(fault) => Err(NoPlan::Plan(fault)),
             };
         }
@@ -106,17 +103,14 @@ pub fn open_plan<S: Source>(alloc: Global, epoch: u32, input: &mut S) -> Result<
             Err(fault) => return Err(NoPlan::Plan(fault)),
         };
         if taken < count {
-            let behind = before + taken as u64;
-            return match begin(
-                alloc,
-                reader,
-                epoch,
-                behind,
-                piece[..count].split_at(taken).1,
-            ) {
-                Ok(printer) => Ok(printer),
+            return match begin(alloc, reader, text, before, &piece[..count], taken) {
+                Ok(opened) => Ok(opened),
                 Err(_) => Err(NoPlan::Plan(no_memory())),
             };
+        }
+        match text.append(&piece[..count]) {
+            Ok(()) => {}
+            Err(_) => return Err(NoPlan::Plan(no_memory())),
         }
         before += count as u64;
     }

@@ -5,12 +5,12 @@ ghost use Rattle.std.specs.Io.KnownBytes.{IsAtEnd};
 ghost use Rattle.dur_outside.specs.Causes.{Rose};
 ghost use Rattle.dur_outside.specs.World.{Image};
 ghost use Rattle.dur_capture.specs.declared.fault.CapFault.{CapFault};
-ghost use Rattle.dur_capture.specs.Feeding.{Waits};
 ghost use Rattle.dur_capture.specs.Whole.{IsFault};
-ghost use Rattle.dur_rerun.specs.Shown.{total, IsCounted, SaysLine, WritesLine, Shown, ShownPart, ShownAll};
+ghost use Rattle.dur_rerun.specs.Shown.{IsCounted, SaysLine, WritesLine, Shown, ShownPart, ShownAll};
 
 use crate::line::append_line;
 use crate::output::say;
+use crate::records::{NoRecord, next_record};
 use dur_base::Prefix;
 use dur_capture::{CapFault, Feed, Record};
 use dur_outside::{Sink, Source};
@@ -72,42 +72,6 @@ fn print_record<K: Sink>(
     }
 }
 
-/// Prints the records that are whole. `ended` says that no more octets come.
-fn print_ready<K: Sink>(
-    alloc: Global,
-    printer: &mut Printer,
-    ended: bool,
-    out: &mut K,
-) -> Result<(), Stop>
-    requires { IsCounted printer.old }
-    ensures counted { OnOk result (IsCounted printer.new) }
-    ensures shown { (own : List ℕ) (before : ℕ) (octets : List ℕ) (first : Image) → Shown own before octets K.tells first (K.world out.old).now printer.old
-        → OnOk result (Shown own before octets K.tells first (K.world out.new).now printer.new) }
-    ensures waits { OnOk result (Waits printer.new.feed ended) }
-    ensures total { OnOk result (total printer.new.feed ≡ total printer.old.feed) }
-    ensures part { (own : List ℕ) (before : ℕ) (octets : List ℕ) (first : Image) → Shown own before octets K.tells first (K.world out.old).now printer.old
-        → OnErr result (ShownPart own before octets K.tells first (K.world out.new).now) }
-    ensures fault { (own : List ℕ) (before : ℕ) (octets : List ℕ) (first : Image) → Shown own before octets K.tells first (K.world out.old).now printer.old
-        → IfErr result (λ e. (fault : CapFault) → e ≡ Stop.Capture fault → IsFault before octets ended fault) }
-    ensures read { IfErr result (λ e. e ≡ Stop.ReadFault → ⊥) }
-    ensures write { IfErr result (λ e. e ≡ Stop.WriteFault → Rose (K.sink_faults out.old) (K.sink_faults out.new)) }
-    ensures later { K.sink_faults out.old ≤ K.sink_faults out.new }
-{
-    'records: loop {
-        let datagram = match printer.feed.next(ended) {
-            Ok(Some(datagram)) => datagram,
-            Ok(None) => return Ok(()),
-            Err(fault) => return Err(Stop::Capture(fault)),
-        };
-        let index = printer.count + 1;
-        match print_record(alloc, printer.own, index, &datagram, &mut printer.line, out) {
-            Ok(()) => {}
-            Err(stop) => return Err(stop),
-        }
-        printer.count = index;
-    }
-}
-
 /// Prints the records of the rest of the input as they come, to its end. Beside `Failed` of the source
 /// and of the sink, it ends early where the capture first breaks off, and for want of memory.
 pub fn print_rest<S: Source, K: Sink>(
@@ -129,25 +93,18 @@ pub fn print_rest<S: Source, K: Sink>(
     ensures later_read { S.faults input.old ≤ S.faults input.new }
     ensures later_write { K.sink_faults out.old ≤ K.sink_faults out.new }
 {
-    let mut piece = [0; 4096];
-    'pieces: loop {
-        match print_ready(alloc, printer, false, out) {
+    'records: loop {
+        let datagram = match next_record(&mut printer.feed, input) {
+            Ok(Some(datagram)) => datagram,
+            Ok(None) => return Ok(()),
+            Err(NoRecord::ReadFault) => return Err(Stop::ReadFault),
+            Err(NoRecord::Capture(fault)) => return Err(Stop::Capture(fault)),
+        };
+        let index = printer.count + 1;
+        match print_record(alloc, printer.own, index, &datagram, &mut printer.line, out) {
             Ok(()) => {}
             Err(stop) => return Err(stop),
         }
-        let count = match input.read(&mut piece) {
-            Ok(count) => count,
-            Err(_) => return Err(Stop::ReadFault),
-        };
-        if count == 0 {
-            return match print_ready(alloc, printer, true, out) {
-                Ok(()) => Ok(()),
-                Err(stop) => Err(stop),
-            };
-        }
-        match printer.feed.push(&piece[..count]) {
-            Ok(()) => {}
-            Err(_) => return Err(Stop::Capture(CapFault::OutOfMemory)),
-        }
+        printer.count = index;
     }
 }

@@ -1,16 +1,10 @@
 //! A durability service for topics of OMG DDS: it keeps samples for readers that join late.
 #![tactic(auto)]
 
-mod admit;
-mod input;
-mod laws;
-mod listing;
-mod plan;
 mod run;
 mod status;
 #[cfg(test)]
 mod tests;
-mod text;
 mod words;
 
 use dur_outside::{OutputRig, StdSink, StdSource};

@@ -5,47 +5,20 @@ ghost use Rattle.std.specs.Io.KnownBytes.{IsAtEnd};
 ghost use Rattle.dur_capture.specs.declared.fault.CapFault.{CapFault};
 ghost use Rattle.dur_outside.specs.Causes.{Rose};
 ghost use Rattle.dur_qos.specs.declared.fault.PlanKind.{PlanKind};
+ghost use Rattle.dur_rerun.specs.Listing.{Lists, NotYetAt, ListBreaks, ListsAll, ListsAtMost};
 ghost use Rattle.dur_rerun.specs.Saying.{IsSaid, wrote};
-ghost use Rattle.dur_rerun.specs.Showing as showing;
-ghost use Rattle.dur_rerun.specs.Showing.{IsWhole, CaptureBreaks, PlanBreaks, place_at};
+ghost use Rattle.dur_rerun.specs.Showing.{IsWhole, CaptureBreaks, PlanBreaks, WritesAll, WritesAtMost, place_at};
 ghost use Rattle.durability.specs.CommandLine.{IsList, IsShow};
-ghost use Rattle.durability.specs.Listing.{Lists, NotYetAt, WritesAll, WritesAtMost};
 ghost use Rattle.durability.specs.Status.{fault_line};
 
-use crate::listing::{NoText, listing_of};
 use crate::status::say_fault;
 use crate::words::{is_list, is_show};
 use dur_outside::{Rig, Sink, Source};
-use dur_rerun::{Ran, Status, say, show};
+use dur_rerun::{Ran, Status, list, show};
 use std::alloc::Global;
 
 /// The epoch of a run.
 const EPOCH: u32 = 0;
-
-/// The command `list`: the text goes out once the input is read to its end.
-fn list<S: Source, R: Rig>(alloc: Global, input: &mut S, rig: &mut R) -> Status
-    ensures usage { result ≡ Status.Usage → ⊥ }
-    ensures input { (place : ℕ) (fault : CapFault) → result ≡ Status.Input place fault → ⊥ }
-    ensures plan { (line : ℕ) (kind : PlanKind) → result ≡ Status.Plan line kind → ⊥ }
-    ensures done { result ≡ Status.Done → R.tells → IfSome (S.left input.old) (λ bytes. WritesAll bytes (R.world rig.old).now (R.world rig.new).now) }
-    ensures end { result ≡ Status.Done → IsAtEnd (S.left input.new) }
-    ensures part { R.tells → IfSome (S.left input.old) (λ bytes. WritesAtMost bytes (R.world rig.old).now (R.world rig.new).now) }
-    ensures read { result ≡ Status.ReadFault → Rose (S.faults input.old) (S.faults input.new) }
-    ensures write { result ≡ Status.WriteFault → Rose (R.sink_faults rig.old) (R.sink_faults rig.new) }
-    ensures not_yet { (place : ℕ) → result ≡ Status.NotYet place → IfSome (S.left input.old) (λ bytes. NotYetAt bytes place) }
-    ensures listed { (result ≡ Status.Done) ⊎ (result ≡ Status.WriteFault) → IfSome (S.left input.old) (λ bytes. (text : List ℕ) × Lists bytes text) }
-{
-    let text = match listing_of(alloc, input) {
-        Ok(text) => text,
-        Err(NoText::Memory) => return Status::OutOfMemory,
-        Err(NoText::ReadFault) => return Status::ReadFault,
-        Err(NoText::NotYet(place)) => return Status::NotYet(place),
-    };
-    match say(rig, &text) {
-        Ok(()) => Status::Done,
-        Err(_) => Status::WriteFault,
-    }
-}
 
 /// Does what the words ask for.
 fn answer<S: Source, R: Rig>(alloc: Global, words: &[String], input: &mut S, rig: R) -> Ran<R>
@@ -56,20 +29,27 @@ fn answer<S: Source, R: Rig>(alloc: Global, words: &[String], input: &mut S, rig
     ensures write { result.status ≡ Status.WriteFault → Rose (R.sink_faults rig) (R.sink_faults result.rig) }
     ensures input { (place : ℕ) (fault : CapFault) → result.status ≡ Status.Input place fault → (place_at fault ≡ Some place) × IfSome (S.left input.old) (λ bytes. CaptureBreaks bytes fault) }
     ensures plan { (line : ℕ) (kind : PlanKind) → result.status ≡ Status.Plan line kind → (kind ≡ PlanKind.OutOfMemory → ⊥) × IfSome (S.left input.old) (λ bytes. PlanBreaks bytes line kind) }
-    ensures not_yet { (place : ℕ) → result.status ≡ Status.NotYet place → IfSome (S.left input.old) (λ bytes. NotYetAt bytes place) }
+    ensures not_yet { (place : ℕ) → result.status ≡ Status.NotYet place → IsList (map string_bytes words.now) × IfSome (S.left input.old) (λ bytes. NotYetAt 0 bytes place) }
     // The words are `list`.
-    ensures done { IsList (map string_bytes words.now) → result.status ≡ Status.Done → R.tells → IfSome (S.left input.old) (λ bytes. WritesAll bytes (R.world rig).now (R.world result.rig).now) }
-    ensures part { IsList (map string_bytes words.now) → R.tells → IfSome (S.left input.old) (λ bytes. WritesAtMost bytes (R.world rig).now (R.world result.rig).now) }
-    ensures listed { IsList (map string_bytes words.now) → (result.status ≡ Status.Done) ⊎ (result.status ≡ Status.WriteFault) → IfSome (S.left input.old) (λ bytes. (text : List ℕ) × Lists bytes text) }
-    ensures complete { IsList (map string_bytes words.now) → IfSome (S.left input.old) (λ bytes. (text : List ℕ) → Lists bytes text
+    ensures done { IsList (map string_bytes words.now) → result.status ≡ Status.Done → R.tells → IfSome (S.left input.old) (λ bytes. ListsAll 0 bytes (R.world rig).now (R.world result.rig).now) }
+    ensures part { IsList (map string_bytes words.now) → R.tells → IfSome (S.left input.old) (λ bytes. ListsAtMost 0 bytes (R.world rig).now (R.world result.rig).now) }
+    ensures listed { IsList (map string_bytes words.now) → (result.status ≡ Status.Done) ⊎ (result.status ≡ Status.WriteFault) → IfSome (S.left input.old) (λ bytes. (text : List ℕ) × Lists 0 bytes text) }
+    ensures admitted { IsList (map string_bytes words.now) → (place : ℕ) (fault : CapFault) → result.status ≡ Status.Input place fault → IfSome (S.left input.old) (λ bytes. ListBreaks 0 bytes fault) }
+    ensures complete { IsList (map string_bytes words.now) → IfSome (S.left input.old) (λ bytes. (text : List ℕ) → Lists 0 bytes text
         → (Rose (S.faults input.old) (S.faults input.new) → ⊥) → (Rose (R.sink_faults rig) (R.sink_faults result.rig) → ⊥)
         → (result.status ≡ Status.Done) ⊎ (result.status ≡ Status.OutOfMemory)) }
-    ensures stops { IsList (map string_bytes words.now) → IfSome (S.left input.old) (λ bytes. (place : ℕ) → NotYetAt bytes place
+    ensures stops { IsList (map string_bytes words.now) → IfSome (S.left input.old) (λ bytes. (place : ℕ) → NotYetAt 0 bytes place
         → (Rose (S.faults input.old) (S.faults input.new) → ⊥)
         → (result.status ≡ Status.NotYet place) ⊎ (result.status ≡ Status.OutOfMemory)) }
+    ensures list_breaks { IsList (map string_bytes words.now) → IfSome (S.left input.old) (λ bytes. (place : ℕ) (fault : CapFault) → ListBreaks 0 bytes fault → place_at fault ≡ Some place
+        → (Rose (S.faults input.old) (S.faults input.new) → ⊥)
+        → (result.status ≡ Status.Input place fault) ⊎ (result.status ≡ Status.OutOfMemory)) }
+    ensures list_plan_breaks { IsList (map string_bytes words.now) → IfSome (S.left input.old) (λ bytes. (line : ℕ) (kind : PlanKind) → PlanBreaks bytes line kind
+        → (Rose (S.faults input.old) (S.faults input.new) → ⊥)
+        → (result.status ≡ Status.Plan line kind) ⊎ (result.status ≡ Status.OutOfMemory)) }
     // The words are `show`.
-    ensures shown { IsShow (map string_bytes words.now) → result.status ≡ Status.Done → IfSome (S.left input.old) (λ bytes. showing.WritesAll 0 bytes R.tells (R.world rig).now (R.world result.rig).now) }
-    ensures shown_part { IsShow (map string_bytes words.now) → IfSome (S.left input.old) (λ bytes. showing.WritesAtMost 0 bytes R.tells (R.world rig).now (R.world result.rig).now) }
+    ensures shown { IsShow (map string_bytes words.now) → result.status ≡ Status.Done → IfSome (S.left input.old) (λ bytes. WritesAll 0 bytes R.tells (R.world rig).now (R.world result.rig).now) }
+    ensures shown_part { IsShow (map string_bytes words.now) → IfSome (S.left input.old) (λ bytes. WritesAtMost 0 bytes R.tells (R.world rig).now (R.world result.rig).now) }
     ensures shows { IsShow (map string_bytes words.now) → IfSome (S.left input.old) (λ bytes. IsWhole bytes
         → (Rose (S.faults input.old) (S.faults input.new) → ⊥) → (Rose (R.sink_faults rig) (R.sink_faults result.rig) → ⊥)
         → (result.status ≡ Status.Done) ⊎ (result.status ≡ Status.OutOfMemory)) }
@@ -81,9 +61,8 @@ fn answer<S: Source, R: Rig>(alloc: Global, words: &[String], input: &mut S, rig
         → (result.status ≡ Status.Plan line kind) ⊎ (result.status ≡ Status.OutOfMemory)) }
 {
     if is_list(words) {
-        let mut rig = rig;
-        let status = list(alloc, input, &mut rig);
-        return Ran { status, rig };
+        let listed = list(alloc, EPOCH, input, rig);
+        return listed;
     }
     if is_show(words) {
         let shown = show(alloc, EPOCH, input, rig);
@@ -115,20 +94,27 @@ pub fn durability<S: Source, R: Rig, E: Sink>(
     ensures write { result.status ≡ Status.WriteFault → Rose (R.sink_faults rig) (R.sink_faults result.rig) }
     ensures input { (place : ℕ) (fault : CapFault) → result.status ≡ Status.Input place fault → (place_at fault ≡ Some place) × IfSome (S.left input.old) (λ bytes. CaptureBreaks bytes fault) }
     ensures plan { (line : ℕ) (kind : PlanKind) → result.status ≡ Status.Plan line kind → (kind ≡ PlanKind.OutOfMemory → ⊥) × IfSome (S.left input.old) (λ bytes. PlanBreaks bytes line kind) }
-    ensures not_yet { (place : ℕ) → result.status ≡ Status.NotYet place → IfSome (S.left input.old) (λ bytes. NotYetAt bytes place) }
+    ensures not_yet { (place : ℕ) → result.status ≡ Status.NotYet place → IsList (map string_bytes words.now) × IfSome (S.left input.old) (λ bytes. NotYetAt 0 bytes place) }
     // The words are `list`.
-    ensures done { IsList (map string_bytes words.now) → result.status ≡ Status.Done → R.tells → IfSome (S.left input.old) (λ bytes. WritesAll bytes (R.world rig).now (R.world result.rig).now) }
-    ensures part { IsList (map string_bytes words.now) → R.tells → IfSome (S.left input.old) (λ bytes. WritesAtMost bytes (R.world rig).now (R.world result.rig).now) }
-    ensures listed { IsList (map string_bytes words.now) → (result.status ≡ Status.Done) ⊎ (result.status ≡ Status.WriteFault) → IfSome (S.left input.old) (λ bytes. (text : List ℕ) × Lists bytes text) }
-    ensures complete { IsList (map string_bytes words.now) → IfSome (S.left input.old) (λ bytes. (text : List ℕ) → Lists bytes text
+    ensures done { IsList (map string_bytes words.now) → result.status ≡ Status.Done → R.tells → IfSome (S.left input.old) (λ bytes. ListsAll 0 bytes (R.world rig).now (R.world result.rig).now) }
+    ensures part { IsList (map string_bytes words.now) → R.tells → IfSome (S.left input.old) (λ bytes. ListsAtMost 0 bytes (R.world rig).now (R.world result.rig).now) }
+    ensures listed { IsList (map string_bytes words.now) → (result.status ≡ Status.Done) ⊎ (result.status ≡ Status.WriteFault) → IfSome (S.left input.old) (λ bytes. (text : List ℕ) × Lists 0 bytes text) }
+    ensures admitted { IsList (map string_bytes words.now) → (place : ℕ) (fault : CapFault) → result.status ≡ Status.Input place fault → IfSome (S.left input.old) (λ bytes. ListBreaks 0 bytes fault) }
+    ensures complete { IsList (map string_bytes words.now) → IfSome (S.left input.old) (λ bytes. (text : List ℕ) → Lists 0 bytes text
         → (Rose (S.faults input.old) (S.faults input.new) → ⊥) → (Rose (R.sink_faults rig) (R.sink_faults result.rig) → ⊥)
         → (result.status ≡ Status.Done) ⊎ (result.status ≡ Status.OutOfMemory)) }
-    ensures stops { IsList (map string_bytes words.now) → IfSome (S.left input.old) (λ bytes. (place : ℕ) → NotYetAt bytes place
+    ensures stops { IsList (map string_bytes words.now) → IfSome (S.left input.old) (λ bytes. (place : ℕ) → NotYetAt 0 bytes place
         → (Rose (S.faults input.old) (S.faults input.new) → ⊥)
         → (result.status ≡ Status.NotYet place) ⊎ (result.status ≡ Status.OutOfMemory)) }
+    ensures list_breaks { IsList (map string_bytes words.now) → IfSome (S.left input.old) (λ bytes. (place : ℕ) (fault : CapFault) → ListBreaks 0 bytes fault → place_at fault ≡ Some place
+        → (Rose (S.faults input.old) (S.faults input.new) → ⊥)
+        → (result.status ≡ Status.Input place fault) ⊎ (result.status ≡ Status.OutOfMemory)) }
+    ensures list_plan_breaks { IsList (map string_bytes words.now) → IfSome (S.left input.old) (λ bytes. (line : ℕ) (kind : PlanKind) → PlanBreaks bytes line kind
+        → (Rose (S.faults input.old) (S.faults input.new) → ⊥)
+        → (result.status ≡ Status.Plan line kind) ⊎ (result.status ≡ Status.OutOfMemory)) }
     // The words are `show`.
-    ensures shown { IsShow (map string_bytes words.now) → result.status ≡ Status.Done → IfSome (S.left input.old) (λ bytes. showing.WritesAll 0 bytes R.tells (R.world rig).now (R.world result.rig).now) }
-    ensures shown_part { IsShow (map string_bytes words.now) → IfSome (S.left input.old) (λ bytes. showing.WritesAtMost 0 bytes R.tells (R.world rig).now (R.world result.rig).now) }
+    ensures shown { IsShow (map string_bytes words.now) → result.status ≡ Status.Done → IfSome (S.left input.old) (λ bytes. WritesAll 0 bytes R.tells (R.world rig).now (R.world result.rig).now) }
+    ensures shown_part { IsShow (map string_bytes words.now) → IfSome (S.left input.old) (λ bytes. WritesAtMost 0 bytes R.tells (R.world rig).now (R.world result.rig).now) }
     ensures shows { IsShow (map string_bytes words.now) → IfSome (S.left input.old) (λ bytes. IsWhole bytes
         → (Rose (S.faults input.old) (S.faults input.new) → ⊥) → (Rose (R.sink_faults rig) (R.sink_faults result.rig) → ⊥)
         → (result.status ≡ Status.Done) ⊎ (result.status ≡ Status.OutOfMemory)) }

@@ -1,13 +1,12 @@
 //! The rows of the first path, and each of its objects failing.
 
-use crate::laws::{lists_or_stops, stops_once, text_once};
 use crate::run::durability;
 use crate::status::number;
 use dur_base::{List, Octets};
 use dur_capture::CapFault;
 use dur_outside::{MemDisk, MemRig, MemSink, MemSource};
 use dur_qos::PlanKind;
-use dur_rerun::Status;
+use dur_rerun::{Status, breaks_are_first_breaks, one_answer};
 use std::alloc::Global;
 
 const PLAN: &[u8] = b"prefix 0102030405060708\ntopic T transient hash 1 - - - - 0\n\
@@ -126,9 +125,8 @@ fn other_forms_and_words_are_named(rt: HostRuntime) {
             b"durability: not yet 197\n"
         )
     );
-    lists_or_stops();
-    text_once();
-    stops_once();
+    one_answer();
+    breaks_are_first_breaks();
     let done = run(alloc, "lists", FIRST, b"", none(alloc));
     assert!(rt; gives(&done, Status::Usage, b"", b"durability: usage\n"));
 }
@@ -137,6 +135,29 @@ fn other_forms_and_words_are_named(rt: HostRuntime) {
 const BEAT: &[u8] = b"\x05\x00\x00\x00\x00\x00\x00\x00\x00\x00\x34\x00\x00\x00RTPS\x02\x05\x00\x00\
 \xa1\xa1\xa1\xa1\xa1\xa1\xa1\xa1\xa1\xa1\xa1\xa1\x07\x01\x1c\x00\x00\x00\x00\x00\x00\x00\x01\x02\
 \x00\x00\x00\x00\x01\x00\x00\x00\x00\x00\x00\x00\x00\x00\x00\x00\x01\x00\x00\x00";
+
+#[test]
+fn records_are_listed_up_to_another_form(rt: HostRuntime) {
+    let alloc = rt.alloc();
+    let done = run(alloc, "list", BEAT, b"", none(alloc));
+    assert!(rt;
+        gives(
+            &done,
+            Status::NotYet(107),
+            b"",
+            b"durability: not yet 107\n"
+        )
+    );
+    let done = run(alloc, "list", FIRST, b"\x00\x00\x00\x00\x00", none(alloc));
+    assert!(rt;
+        gives(
+            &done,
+            Status::Input(90, CapFault::EndsInside(90)),
+            b"",
+            b"durability: input 90 EndsInside\n"
+        )
+    );
+}
 
 #[test]
 fn records_are_shown_up_to_a_break(rt: HostRuntime) {
@@ -155,14 +176,14 @@ fn records_are_shown_up_to_a_break(rt: HostRuntime) {
     assert!(rt; number(done.status) == 4);
 }
 
-/// A run of `show` over a plan whose second and third line are these.
-fn shows_plan(alloc: Global, second: &[u8], third: &[u8]) -> Status {
+/// A run of one word over a plan whose second and third line are these.
+fn over_plan(alloc: Global, word: &str, second: &[u8], third: &[u8]) -> Status {
     let mut bytes = Octets::new(alloc);
     let _ = bytes.append(b"prefix 0102030405060708\n");
     let _ = bytes.append(second);
     let _ = bytes.append(third);
     let mut words = Vec::new(alloc);
-    if let Ok(word) = String::from_str(alloc, "show") {
+    if let Ok(word) = String::from_str(alloc, word) {
         let _ = words.push(word);
     }
     let mut input = MemSource::new(bytes, List::new(alloc));
@@ -182,12 +203,17 @@ const OTHER: &[u8] = b"writer a1a1a1a1a1a1a1a1a1a1a1a100000102 U -\n";
 fn a_plan_is_told_where_it_breaks(rt: HostRuntime) {
     let alloc = rt.alloc();
     let deep = b"topic T transient hash 3 - - 2 - 0\n";
-    assert!(rt; shows_plan(alloc, deep, WRITER) == Status::Plan(2, PlanKind::DepthAboveLimit));
+    assert!(rt;
+        over_plan(alloc, "list", deep, WRITER) == Status::Plan(2, PlanKind::DepthAboveLimit)
+    );
     let zero = b"topic T transient hash 01 - - - - 0\n";
-    assert!(rt; shows_plan(alloc, zero, WRITER) == Status::Plan(2, PlanKind::Number));
-    assert!(rt; shows_plan(alloc, TOPIC, TOPIC) == Status::Plan(3, PlanKind::Twice));
-    assert!(rt; shows_plan(alloc, TOPIC, OTHER) == Status::Plan(3, PlanKind::UnknownTopic));
-    assert!(rt; shows_plan(alloc, TOPIC, WRITER) == Status::Plan(4, PlanKind::Word));
+    assert!(rt; over_plan(alloc, "show", zero, WRITER) == Status::Plan(2, PlanKind::Number));
+    assert!(rt; over_plan(alloc, "show", TOPIC, TOPIC) == Status::Plan(3, PlanKind::Twice));
+    assert!(rt; over_plan(alloc, "show", TOPIC, OTHER) == Status::Plan(3, PlanKind::UnknownTopic));
+    assert!(rt; over_plan(alloc, "show", TOPIC, WRITER) == Status::Plan(4, PlanKind::Word));
+    assert!(rt; over_plan(alloc, "list", TOPIC, WRITER) == Status::Plan(4, PlanKind::Word));
+    let persistent = b"topic T persistent hash 1 - - - - 0\nend\n";
+    assert!(rt; over_plan(alloc, "list", persistent, b"") == Status::NotYet(24));
 }
 
 #[test]

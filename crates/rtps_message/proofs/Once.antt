@@ -75,7 +75,7 @@ splits_once own whole bytes c (s ∷ ss) (t ∷ ts) rest behind e f x y p q =
 heard_same : (h g : Heard) → h.facts ≡ g.facts → h.end ≡ g.end → h ≡ g
 heard_same h g facts end = ap (λ (fs : List Fact). let x : Heard = record { facts = fs; end = h.end } in x) facts ∙ ap (λ (e : End). let x : Heard = record { facts = g.facts; end = e } in x) end
 
-hears_once : (own bytes : List ℕ) (h g : Heard) → Hears own bytes h → Hears own bytes g → h ≡ g
+pub hears_once : (own bytes : List ℕ) (h g : Heard) → Hears own bytes h → Hears own bytes g → h ≡ g
 hears_once own bytes h g (inl x) (inl y) =
     let same = splits_once own bytes (drop 20 bytes) (start bytes) x.1.subs y.1.subs x.1.rest y.1.rest h.end g.end x.1.splits y.1.splits x.1.ends y.1.ends in
     heard_same h g (x.1.facts ∙ same.0 ∙ sym y.1.facts) same.1

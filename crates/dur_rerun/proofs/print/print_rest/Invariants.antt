@@ -1,11 +1,11 @@
 use Rattle.std.proofs.Common.{◌≤◌, ◌+◌, ◌-◌, ◌^◌, ◌++◌, ℕ, List}
 use Rattle.std.specs.Io.KnownBytes.{Consumes}
 use Rattle.dur_outside.specs.World.{Image}
-use Rattle.dur_rerun.specs.Shown.{total, IsCounted, Shown}
+use Rattle.dur_rerun.specs.Shown.{IsCounted, Shown}
 use Rattle.dur_rerun.proofs.print.print_rest.Given as goal
 
-abbrev pub invariant-pieces : goal.invariant-pieces
-invariant-pieces g l = record {
+abbrev pub invariant-records : goal.invariant-records
+invariant-records g l = record {
   counted : IsCounted l.printer;
   seen : List ℕ;
   consumed : Consumes (g.S.Source.left l.fn.input) (g.S.Source.left l.input) seen;
@@ -15,5 +15,5 @@ invariant-pieces g l = record {
   later_write : g.K.Sink.sink_faults l.fn.out ≤ g.K.Sink.sink_faults l.out;
 }
 
-abbrev pub decreases-pieces : goal.decreases-pieces
-decreases-pieces g l = 2 ^ 40 + 4096 - total l.printer.feed
+abbrev pub decreases-records : goal.decreases-records
+decreases-records g l = 2 ^ 40 - (l.printer.feed.before + l.printer.feed.taken)
