@@ -6,7 +6,6 @@ pub mod Headers
 pub mod Subs
 pub mod OneReading
 pub mod Writing
-pub mod First
 pub mod HeaderSteps
 pub mod FieldSteps
 pub mod SetSteps

@@ -4,14 +4,12 @@
 mod body;
 mod data;
 mod field;
-mod first;
 mod laws;
 mod reading;
 mod set;
 mod sub;
 mod writing;
 
-pub use first::{FirstData, first_data};
 pub use laws::{bits_in_place, one_reading};
 pub use reading::read_sub;
 pub use sub::{DataSub, Sub, SubFault, SubKind};
