@@ -2,10 +2,23 @@
 and their writers and readers (SEDP)."""
 import re
 import struct
+from typing import NamedTuple
 
 PARTICIPANTS, WRITERS, READERS = b"\0\1\0\xc2", b"\0\0\3\xc2", b"\0\0\4\xc2"
 DURABILITIES = ("volatile", "transient_local", "transient", "persistent")
 NAME = re.compile(r"[A-Za-z0-9_/]{1,64}\Z")
+# The settings of a plan's topic that DURABILITY_SERVICE has where nothing is announced (OMG DDS 1.4, 2.2.3).
+SETTINGS = "1 - - - - 0"
+
+
+class Endpoint(NamedTuple):
+    """What a writer or reader announces of itself; the settings are those of a plan's topic."""
+
+    guid: str
+    topic: str
+    type: str = ""
+    durability: str = "volatile"
+    settings: str = SETTINGS
 
 
 def parameters(octets, order):
@@ -25,7 +38,19 @@ def text(octets, order):
     if octets is None or len(octets) < 4:
         return None
     length = struct.unpack_from(order + "I", octets)[0]
-    return octets[4 : 4 + max(length - 1, 0)].decode("utf-8", "replace")
+    found = octets[4 : 4 + max(length - 1, 0)].decode("utf-8", "replace")
+    return "".join(one if one.isprintable() else "\ufffd" for one in found)
+
+
+def settings(octets, order):
+    """History, limits and delay of a plan's topic, as a DURABILITY_SERVICE says them."""
+    if octets is None or len(octets) < 28:
+        return SETTINGS
+    seconds, fraction, kind, depth, *limits = struct.unpack_from(order + "iIIiiii", octets)
+    history = "all" if kind == 1 else str(max(depth, 1))
+    samples, instances, each = ("-" if limit < 1 else str(limit) for limit in limits)
+    delay = min(max(seconds, 0) + (fraction > 0), 0x7FFFFFFF)
+    return f"{history} {samples} {instances} {each} - {delay}"
 
 
 def data_messages(datagram):
@@ -51,13 +76,14 @@ def data_messages(datagram):
 
 
 def endpoint(found, order):
-    """GUID, topic, type and durability of a writer or reader that is announced."""
+    """A writer or reader that is announced."""
     kind = struct.unpack_from(order + "I", found[0x1D])[0] if len(found.get(0x1D, b"")) >= 4 else 0
-    return (
-        found.get(0x5A, b"").hex(),
+    return Endpoint(
+        found[0x5A].hex(),
         text(found.get(5), order) or "",
         text(found.get(7), order) or "",
         DURABILITIES[kind] if kind < len(DURABILITIES) else "volatile",
+        settings(found.get(0x1E), order),
     )
 
 
@@ -77,22 +103,37 @@ def announced(datagrams):
     return participants, list(writers.values()), list(readers.values())
 
 
+def topic_line(name, writers):
+    """The plan's line of a topic with these writers, and what it could not say of them."""
+    kinds = {writer.durability for writer in writers}
+    kind = "persistent" if "persistent" in kinds else "transient"
+    shape = "none" if int(writers[0].guid[-2:], 16) & 0x3F == 3 else "hash"
+    notes = []
+    if kinds != {kind}:
+        notes.append(f"the writers of `{name}` offer {' and '.join(sorted(kinds))}: the plan has them as {kind}")
+    if len({writer.settings for writer in writers}) > 1:
+        notes.append(f"the writers of `{name}` announce different settings: the plan has those of the first")
+    return f"topic {name} {kind} {shape} {writers[0].settings}", notes
+
+
 def plan_of(writers, readers):
     """Plan text that would list these writers, and what could not be put into it."""
-    lines, notes, topics = ["prefix 0000000000000000"], [], {}
-    for guid, topic, _, kind in writers:
-        if not NAME.match(topic):
-            notes.append(f"the topic `{topic}` has no name that a plan can have: rename it there")
-        elif topic not in topics:
-            topics[topic] = "persistent" if kind == "persistent" else "transient"
-            shape = "none" if guid[-2:] == "03" else "hash"
-            lines.append(f"topic {topic} {topics[topic]} {shape} 1 - - - - 0")
-            if kind not in ("transient", "persistent"):
-                notes.append(f"the writers of `{topic}` offer {kind}: the plan has them as transient")
+    topics, notes, lines = {}, [], ["prefix 0000000000000000"]
+    for writer in writers:
+        topics.setdefault(writer.topic, []).append(writer)
+    for name in [name for name in topics if not NAME.match(name)]:
+        notes.append(f"the topic `{name}` is left out, for a plan can have no such name: give it another one there")
+        del topics[name]
+    for name, found in topics.items():
+        line, more = topic_line(name, found)
+        lines.append(line)
+        notes += more
     if any(" hash " in line for line in lines):
         notes.append("where a writer sends no key hash inline, as Cyclone DDS by default, put `u32` or `text` for `hash`")
-    lines += [f"writer {guid} {topic} -" for guid, topic, _, _ in writers if topic in topics]
-    lines += [f"reader {guid} {topic} {kind}" for guid, topic, _, kind in readers if topic in topics]
+    for name in sorted({reader.topic for reader in readers} - {writer.topic for writer in writers}):
+        notes.append(f"the readers of `{name}` are left out, for no writer of it is announced")
+    lines += [f"writer {one.guid} {one.topic} -" for one in writers if one.topic in topics]
+    lines += [f"reader {one.guid} {one.topic} {one.durability}" for one in readers if one.topic in topics]
     return "\n".join([*lines, "end", ""]), notes
 
 
@@ -100,7 +141,8 @@ def summary(datagrams):
     """What datagrams announce, as text, and a plan that would list it."""
     participants, writers, readers = announced(datagrams)
     out = [f"participant {prefix} {name}".rstrip() for prefix, name in participants.items()]
-    out += [f"writer {guid} topic {topic} type {kind} {durability}" for guid, topic, kind, durability in writers]
-    out += [f"reader {guid} topic {topic} type {kind} {durability}" for guid, topic, kind, durability in readers]
+    for word, found in (("writer", writers), ("reader", readers)):
+        out += [f"{word} {one.guid} topic {one.topic} type {one.type} {one.durability}" for one in found]
     plan, notes = plan_of(writers, readers)
-    return "\n".join([*out, "", "A plan that lists the writers (its prefix is any 8 octets):", plan, *(f"Note: {note}." for note in notes)]).rstrip() + "\n"
+    out += ["", "A plan that lists the writers (its prefix is any 8 octets):", plan]
+    return "\n".join([*out, *(f"Note: {note}." for note in notes)]).strip() + "\n"

@@ -6,7 +6,11 @@
 Each line is a moment in ticks of 2^-32 s, a port and a datagram as hex, parted by spaces; octets may
 be parted by further spaces. Empty lines and lines that begin with `#` are passed over. A line of
 another form is told with its number, and then nothing is written.
+
+Ends with 0, with 1 where a line has another form or nothing can be written, and with 2 where words stand
+behind the command.
 """
+import os
 import struct
 import sys
 
@@ -17,19 +21,19 @@ class BadLine(Exception):
     """A line that is no record."""
 
 
+def decimal(word, bits, what):
+    """A decimal number of so many bits."""
+    if not (word.isascii() and word.isdigit() and len(word) <= 20 and int(word) < 1 << bits):
+        raise BadLine(f"{what} is a decimal number from 0 to {(1 << bits) - 1}")
+    return int(word)
+
+
 def record(line):
     """The capture record of one line."""
     words = line.split()
     if len(words) < 2:
         raise BadLine("a moment and a port are to stand before the datagram")
-    try:
-        moment, port = int(words[0]), int(words[1])
-    except ValueError:
-        raise BadLine("moment and port are decimal numbers") from None
-    if not 0 <= moment < 1 << 64:
-        raise BadLine("a moment is from 0 to 2^64 - 1")
-    if not 0 <= port < 1 << 16:
-        raise BadLine("a port is from 0 to 65535")
+    moment, port = decimal(words[0], 64, "a moment"), decimal(words[1], 16, "a port")
     try:
         datagram = bytes.fromhex("".join(words[2:]))
     except ValueError:
@@ -53,12 +57,20 @@ def capture(lines):
 
 
 def main():
+    if len(sys.argv) > 1:
+        print("usage: capture_from_hex.py < LINES > CAPTURE", file=sys.stderr)
+        return 2
     try:
         out = capture(sys.stdin)
+        sys.stdout.buffer.write(out)
+        sys.stdout.buffer.flush()
     except (BadLine, UnicodeDecodeError) as fault:
         print(f"capture_from_hex: {fault}", file=sys.stderr)
         return 1
-    sys.stdout.buffer.write(out)
+    except OSError as fault:
+        print(f"capture_from_hex: {fault}", file=sys.stderr)
+        os.dup2(os.open(os.devnull, os.O_WRONLY), sys.stdout.fileno())
+        return 1
     return 0
 
 

@@ -1,19 +1,20 @@
 #!/usr/bin/env python3
 """Makes capture records of the UDP datagrams in a file of tcpdump or Wireshark.
 
-    pcap_to_capture.py [--port N]... [--source ADDRESS]... [--plan FILE] [--output FILE] PCAP
-    pcap_to_capture.py --summary PCAP
+    pcap_to_capture.py [--port N]... [--source ADDRESS]... [--output FILE] [--plan FILE | --summary] PCAP
 
-Reads classic pcap and pcapng over Ethernet (with VLAN tags), raw IP, Linux cooked and loopback links,
+Reads classic pcap and pcapng over Ethernet, Linux cooked (each with VLAN tags), raw IP and loopback links,
 IPv4 and IPv6. A record's moment is the packet's time since the Unix epoch in ticks of 2^-32 s, and its
 port is the UDP destination port. With --port only datagrams to one of these ports are taken, with
 --source only those from one of these addresses. With --plan that file's octets stand in front, so
 that what is written is a whole input. With --summary the participants, writers and readers that
-discovery announces in the file are printed in place of records, and a plan that would list them.
+discovery announces in these datagrams are printed in place of records, and a plan that would list them.
 
-Fragments of IP packets, packets that were cut off when they were captured, and packets that are no UDP
-are left out, and counted on standard error. A file that is broken or of another kind is told with the
-octet at which it is so, and then nothing is written.
+Fragments of UDP, packets that were cut off when they were captured, packets of links of other types,
+and packets that are no UDP are left out, and counted on standard error. A file that is broken or of
+another kind is told with the octet at which it is so, and then nothing is written.
+
+Ends with 0, with 1 where a file is broken or cannot be read or written, and with 2 for other words.
 """
 import argparse
 import ipaddress
@@ -27,7 +28,10 @@ from announced import summary
 
 LONGEST = 65507
 VLAN_TAGS = (0x8100, 0x88A8, 0x9100)
-ETHERNET, RAW, SLL, SLL2, NULL, LOOP, IPV4, IPV6 = (1,), (101, 12, 14), (113,), (276,), (0,), (108,), (228,), (229,)
+IP_TYPES = (0x0800, 0x86DD)
+IP_FAMILIES = (2, 10, 24, 28, 30)
+ETHERNET, COOKED, COOKED_2, LOOPBACK, RAW = (1,), (113,), (276,), (0, 108), (101, 12, 14, 228, 229)
+LINKS = ETHERNET + COOKED + COOKED_2 + LOOPBACK + RAW
 
 
 class BadFile(Exception):
@@ -63,7 +67,12 @@ def pcap_packets(data):
         b"\x4d\x3c\xb2\xa1": ("<", 10**9),
         b"\xa1\xb2\x3c\x4d": (">", 10**9),
     }[data[:4]]
-    link = field(data, 20, order + "I", "the file's header")[0] & 0xFFFF
+    major, link = field(data, 0, order + "4xH14xI", "the file's header")
+    link &= 0xFFFF
+    if major != 2:
+        raise BadFile(4, f"pcap of version {major} is not read")
+    if link not in LINKS:
+        raise BadFile(20, f"links of type {link} are not read")
     place = 24
     while place < len(data):
         seconds, fraction, kept, length = field(data, place, order + "IIII", "a packet's header")
@@ -99,6 +108,10 @@ def interface(data, place, end, order):
     return link, units, struct.unpack(order + "q", offset)[0] if len(offset) == 8 else 0
 
 
+# The least length of a block of the kinds that are read: section, interface and packet.
+LEAST = {0x0A0D0D0A: 28, 1: 20, 6: 32}
+
+
 def pcapng_packets(data):
     """The packets of a pcapng file."""
     place, order, interfaces = 0, "<", []
@@ -108,9 +121,11 @@ def pcapng_packets(data):
             if magic not in (b"\x4d\x3c\x2b\x1a", b"\x1a\x2b\x3c\x4d"):
                 raise BadFile(place + 8, "the section has no byte order")
             order, interfaces = "<" if magic == b"\x4d\x3c\x2b\x1a" else ">", []
+            if field(data, place + 12, order + "H", "a section's header")[0] != 1:
+                raise BadFile(place + 12, "pcapng of another version than 1 is not read")
         kind, length = field(data, place, order + "II", "a block's header")
         end = place + length
-        if length < 12 or length % 4 or end > len(data):
+        if length < LEAST.get(kind, 12) or length % 4 or end > len(data):
             raise BadFile(place + 4, "the block's length does not fit")
         if field(data, end - 4, order + "I", "a block")[0] != length:
             raise BadFile(end - 4, "the block's two lengths differ")
@@ -142,26 +157,26 @@ def packets(data):
 # ---- from a packet to a datagram; each answers None for what is no UDP, or a word for why it is left out
 
 
+def behind_tags(packet, kind, place):
+    """The IP packet at a place, past VLAN tags, where the type that stands at `kind` says that there is one."""
+    found = packet[kind : kind + 2]
+    while len(found) == 2 and struct.unpack(">H", found)[0] in VLAN_TAGS:
+        found, place = packet[place + 2 : place + 4], place + 4
+    return packet[place:] if len(found) == 2 and struct.unpack(">H", found)[0] in IP_TYPES else None
+
+
 def network(link, packet):
     """The IP packet behind a link's header."""
     if link in ETHERNET:
-        place, kind = 12, None
-        while len(packet) >= place + 2:
-            kind = struct.unpack_from(">H", packet, place)[0]
-            place += 2
-            if kind not in VLAN_TAGS:
-                break
-            place += 2
-        return packet[place:] if kind in (0x0800, 0x86DD) else None
-    if link in SLL:
-        return packet[16:] if packet[14:16] in (b"\x08\x00", b"\x86\xdd") else None
-    if link in SLL2:
-        return packet[20:] if packet[:2] in (b"\x08\x00", b"\x86\xdd") else None
-    if link in NULL or link in LOOP:
-        return packet[4:]
-    if link in RAW or link in IPV4 or link in IPV6:
-        return packet
-    return None
+        return behind_tags(packet, 12, 14)
+    if link in COOKED:
+        return behind_tags(packet, 14, 16)
+    if link in COOKED_2:
+        return behind_tags(packet, 0, 20)
+    if link in LOOPBACK:
+        family = min(int.from_bytes(packet[:4], order) for order in ("little", "big"))
+        return packet[4:] if family in IP_FAMILIES else None
+    return packet
 
 
 def transport(packet):
@@ -199,6 +214,8 @@ def transport_6(packet):
 
 def datagram(link, packet, is_cut):
     """Source, destination port and octets of a packet's datagram, or why it is left out."""
+    if link not in LINKS:
+        return "of other links"
     inner = network(link, packet)
     found = transport(inner) if inner is not None else None
     if found is None:
@@ -214,9 +231,9 @@ def datagram(link, packet, is_cut):
     return (source, port, segment[8:length]) if length - 8 <= LONGEST else "too long"
 
 
-def convert(data, ports=(), sources=()):
-    """Capture records of the datagrams that pass the filters, and how many packets were what."""
-    out, counts = [], Counter()
+def datagrams(data, ports=(), sources=()):
+    """Moment, port and octets of each datagram that passes the filters, and how many packets were what."""
+    out, counts = [], Counter(datagrams=0)
     for moment, link, packet, is_cut in packets(data):
         found = datagram(link, packet, is_cut)
         if isinstance(found, str):
@@ -227,59 +244,110 @@ def convert(data, ports=(), sources=()):
             counts["filtered out"] += 1
             continue
         counts["datagrams"] += 1
-        out.append(struct.pack("<QHI", moment, port, len(octets)) + octets)
-    return b"".join(out), counts
+        out.append((moment, port, octets))
+    return out, counts
+
+
+def convert(data, ports=(), sources=()):
+    """Capture records of the datagrams that pass the filters, and how many packets were what."""
+    found, counts = datagrams(data, ports, sources)
+    return b"".join(struct.pack("<QHI", moment, port, len(octets)) + octets for moment, port, octets in found), counts
+
+
+# ---- files and words
+
+
+def read_plan(path):
+    """The octets of a plan, which are to end with its last line, for a capture begins right behind it."""
+    with open(path, "rb") as file:
+        plan = file.read()
+    if not plan.endswith(b"\nend\n"):
+        raise BadFile(len(plan), "the plan does not end with the line `end` and one line feed")
+    return plan
 
 
 def write_whole(path, octets):
-    """Writes a file so that it is there whole or not at all."""
-    handle, name = tempfile.mkstemp(dir=os.path.dirname(os.path.abspath(path)))
+    """Writes a file so that it is there whole or not at all; what is no plain file is written as it is."""
+    if os.path.exists(path) and not os.path.isfile(path):
+        with open(path, "wb") as out:
+            out.write(octets)
+        return
+    path = os.path.realpath(path)
+    handle, name = tempfile.mkstemp(dir=os.path.dirname(path), prefix=".capture")
     try:
         with os.fdopen(handle, "wb") as out:
             out.write(octets)
+        os.chmod(name, mode_of(path))
         os.replace(name, path)
     except BaseException:
         os.unlink(name)
         raise
 
 
+def mode_of(path):
+    """The mode of a file that is there, or that of a new one."""
+    if os.path.exists(path):
+        return os.stat(path).st_mode & 0o777
+    mask = os.umask(0)
+    os.umask(mask)
+    return 0o666 & ~mask
+
+
+def port_of(word):
+    """A UDP port."""
+    if not (word.isascii() and word.isdigit() and int(word) < 1 << 16):
+        raise argparse.ArgumentTypeError("a port is from 0 to 65535")
+    return int(word)
+
+
 def arguments():
     parser = argparse.ArgumentParser(description="Makes capture records of the UDP datagrams in a pcap or pcapng file.")
-    parser.add_argument("--port", type=int, action="append", default=[], help="take datagrams to this port alone (may stand more than once)")
+    parser.add_argument("--port", type=port_of, action="append", default=[], help="take datagrams to this port alone (may stand more than once)")
     parser.add_argument("--source", type=ipaddress.ip_address, action="append", default=[], help="take datagrams from this address alone (may stand more than once)")
-    parser.add_argument("--plan", help="put this file in front")
     parser.add_argument("--output", help="write to this file in place of standard output")
-    parser.add_argument("--summary", action="store_true", help="print what discovery announces, and a plan that would list it")
+    form = parser.add_mutually_exclusive_group()
+    form.add_argument("--plan", help="put this file in front")
+    form.add_argument("--summary", action="store_true", help="print what discovery announces, and a plan that would list it")
     parser.add_argument("pcap", metavar="PCAP")
     return parser.parse_args()
 
 
+def made(given):
+    """What is to be written, and how many packets were what."""
+    with open(given.pcap, "rb") as file:
+        data = file.read()
+    if given.summary:
+        found, counts = datagrams(data, given.port, given.source)
+        return summary(octets for _, _, octets in found).encode(), counts
+    return convert(data, given.port, given.source)
+
+
 def main():
     given = arguments()
+    path = given.plan
     try:
-        with open(given.pcap, "rb") as file:
-            data = file.read()
-        plan = b""
-        if given.plan:
-            with open(given.plan, "rb") as file:
-                plan = file.read()
-        if given.summary:
-            found = (datagram(link, packet, is_cut) for _, link, packet, is_cut in packets(data))
-            sys.stdout.write(summary(one[2] for one in found if not isinstance(one, str)))
-            return 0
-        records, counts = convert(data, given.port, given.source)
+        plan = read_plan(given.plan) if given.plan else b""
+        path = given.pcap
+        octets, counts = made(given)
         if given.output:
-            write_whole(given.output, plan + records)
+            write_whole(given.output, plan + octets)
         else:
-            sys.stdout.buffer.write(plan + records)
+            sys.stdout.buffer.write(plan + octets)
+            sys.stdout.buffer.flush()
     except BadFile as fault:
-        print(f"pcap_to_capture: {given.pcap}: {fault}", file=sys.stderr)
+        print(f"pcap_to_capture: {path}: {fault}", file=sys.stderr)
         return 1
     except OSError as fault:
         print(f"pcap_to_capture: {fault}", file=sys.stderr)
+        close_quietly()
         return 1
     print("pcap_to_capture: " + ", ".join(f"{counts[what]} {what}" for what in sorted(counts)), file=sys.stderr)
     return 0
+
+
+def close_quietly():
+    """Lets nothing more be written to a standard output that failed."""
+    os.dup2(os.open(os.devnull, os.O_WRONLY), sys.stdout.fileno())
 
 
 if __name__ == "__main__":
