@@ -8,11 +8,13 @@ import unittest
 from made import TOOLS, TOP
 import capture_from_hex
 
+BUFFERED = {name: word for name, word in os.environ.items() if name != "PYTHONUNBUFFERED"}
+
 
 class FromHex(unittest.TestCase):
     def run_tool(self, lines, *words, stdout=subprocess.PIPE):
         tool = os.path.join(TOOLS, "capture_from_hex.py")
-        return subprocess.run([sys.executable, tool, *words], input=lines, stdout=stdout, stderr=subprocess.PIPE, check=False)
+        return subprocess.run([sys.executable, tool, *words], input=lines, stdout=stdout, stderr=subprocess.PIPE, env=BUFFERED, check=False)
 
     def test_records(self):
         lines = ["# a comment\n", "5 7400 52 5450\n", "\n", "  6 0\n", f"{2**64 - 1} 65535 Ff"]

@@ -12,6 +12,7 @@ from made import (CAPTURES, LOOPBACK, OUTER_TAG, SOURCE_6, TAG, TOOLS, block, co
 import pcap_to_capture
 
 PLAN = b"prefix 0000000000000000\nend\n"
+BUFFERED = {name: word for name, word in os.environ.items() if name != "PYTHONUNBUFFERED"}
 HALF_MICROSECONDS = 3 * 10**6 + 500_000
 
 
@@ -258,7 +259,7 @@ class Runs(unittest.TestCase):
     @unittest.skipUnless(os.path.exists("/dev/full"), "no /dev/full")
     def test_an_output_that_cannot_be_written(self):
         with open("/dev/full", "wb") as full:
-            done = self.run_tool("in.pcap", stdout=full)
+            done = self.run_tool("in.pcap", stdout=full, env=BUFFERED)
         self.assertEqual(done.returncode, 1)
         self.assertEqual(done.stderr.count(b"\n"), 1)
 

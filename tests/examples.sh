@@ -1,0 +1,36 @@
+#!/usr/bin/env bash
+# Runs the commands of examples/README.md and compares what they print with what that page says. The
+# commands on real traffic are skipped where python3 is missing.
+#
+#     examples.sh [PROGRAM]
+set -eu -o pipefail
+cd "$(dirname "$0")/.."
+program=${1:-$(tests/program.sh)}
+folder=$(mktemp -d)
+trap 'rm -rf "$folder"' EXIT
+
+fails() {
+    echo "tests/examples.sh: $1"
+    exit 1
+}
+
+# Whether the page has a text as a line of its own, set off as what is printed.
+says() {
+    grep -qxF "    $2" examples/README.md || fails "$1: examples/README.md does not say: $2"
+}
+
+cat examples/first/plan.txt examples/first/capture.bin | "$program" list > "$folder/out" || fails "first: list failed"
+[ "$(wc -l < "$folder/out")" = 1 ] || fails "first: more or less than a line"
+says first "$(cat "$folder/out")"
+echo "first: as examples/README.md says"
+if ! command -v python3 > /dev/null; then echo "tests/examples.sh: real traffic skipped, python3 is missing"; exit 0; fi
+python3 tools/capture_from_hex.py < examples/first/capture.hex | cmp - examples/first/capture.bin
+for name in cyclonedds fastdds; do
+    python3 tools/pcap_to_capture.py --plan "examples/$name/plan.txt" "examples/$name/capture.pcap" > "$folder/in" 2> "$folder/told" || fails "$name: $(cat "$folder/told")"
+    "$program" show < "$folder/in" > "$folder/out" || fails "$name: show ended with $?"
+    datagrams=$(grep -oE '[0-9]+ datagrams' "$folder/told" | cut -d' ' -f1)
+    lines=$(wc -l < "$folder/out")
+    [ "$lines" = "$datagrams" ] || fails "$name: $lines lines for $datagrams datagrams"
+    says "$name" "$(tail -n 1 "$folder/out")"
+    echo "$name: a line for each of $datagrams datagrams, the last as examples/README.md says"
+done
