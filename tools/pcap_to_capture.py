@@ -56,7 +56,7 @@ def ticks(place, seconds, fraction, units):
     return moment
 
 
-# ---- packets of a file: (moment, link type, octets, whether the packet was cut off)
+# ---- packets of a file: (moment, link type, octets that were captured)
 
 
 def pcap_packets(data):
@@ -75,12 +75,12 @@ def pcap_packets(data):
         raise BadFile(20, f"links of type {link} are not read")
     place = 24
     while place < len(data):
-        seconds, fraction, kept, length = field(data, place, order + "IIII", "a packet's header")
+        seconds, fraction, kept = field(data, place, order + "III4x", "a packet's header")
         if place + 16 + kept > len(data):
             raise BadFile(place + 8, "the packet is longer than what is left of the file")
         if fraction >= units:
             raise BadFile(place + 4, "the fraction of a second is no fraction")
-        yield ticks(place, seconds, fraction, units), link, data[place + 16 : place + 16 + kept], kept < length
+        yield ticks(place, seconds, fraction, units), link, data[place + 16 : place + 16 + kept]
         place += 16 + kept
 
 
@@ -132,14 +132,14 @@ def pcapng_packets(data):
         if kind == 1:
             interfaces.append(interface(data, place + 8, end - 4, order))
         elif kind == 6:
-            number, high, low, kept, whole = field(data, place + 8, order + "IIIII", "a packet's block")
+            number, high, low, kept = field(data, place + 8, order + "IIII4x", "a packet's block")
             if number >= len(interfaces):
                 raise BadFile(place + 8, "no interface has that number")
             if place + 28 + kept > end - 4:
                 raise BadFile(place + 20, "the packet is longer than its block")
             link, units, offset = interfaces[number]
             time = (high << 32) + low
-            yield ticks(place + 12, time // units + offset, time % units, units), link, data[place + 28 : place + 28 + kept], kept < whole
+            yield ticks(place + 12, time // units + offset, time % units, units), link, data[place + 28 : place + 28 + kept]
         elif kind in (2, 3):
             raise BadFile(place, "packet blocks without a time of their own, and obsolete ones, are not read")
         place = end
@@ -212,7 +212,7 @@ def transport_6(packet):
     return (ipaddress.ip_address(packet[8:24]), packet[place:whole]) if kind == 17 else None
 
 
-def datagram(link, packet, is_cut):
+def datagram(link, packet):
     """Source, destination port and octets of a packet's datagram, or why it is left out."""
     if link not in LINKS:
         return "of other links"
@@ -226,7 +226,7 @@ def datagram(link, packet, is_cut):
     if len(segment) < 8:
         return "cut off"
     port, length = struct.unpack_from(">HH", segment, 2)
-    if length < 8 or length > len(segment) or (is_cut and length != len(segment)):
+    if length < 8 or length > len(segment):
         return "cut off"
     return (source, port, segment[8:length]) if length - 8 <= LONGEST else "too long"
 
@@ -234,8 +234,8 @@ def datagram(link, packet, is_cut):
 def datagrams(data, ports=(), sources=()):
     """Moment, port and octets of each datagram that passes the filters, and how many packets were what."""
     out, counts = [], Counter(datagrams=0)
-    for moment, link, packet, is_cut in packets(data):
-        found = datagram(link, packet, is_cut)
+    for moment, link, packet in packets(data):
+        found = datagram(link, packet)
         if isinstance(found, str):
             counts[found] += 1
             continue

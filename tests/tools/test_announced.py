@@ -9,6 +9,7 @@ import pcap_to_capture
 from announced import Endpoint
 
 PREFIX = b"\xa1" * 12
+PARTICIPANTS, WRITERS, READERS = (bytes.fromhex(name) for name in ("000100c2", "000003c2", "000004c2"))
 WRITER, READER = PREFIX + b"\0\0\1\2", PREFIX + b"\0\0\1\7"
 
 
@@ -44,9 +45,9 @@ class Announced(unittest.TestCase):
     def test_participants_writers_and_readers(self):
         for order in "<>":
             found = [
-                announcement(announced.PARTICIPANTS, parameter(0x50, PREFIX + b"\0\0\1\xc1", order), parameter(0x62, text("plant", order), order), order=order),
-                of_endpoint(announced.WRITERS, WRITER, "T", 3, order=order),
-                of_endpoint(announced.READERS, READER, "T", 2, order=order),
+                announcement(PARTICIPANTS, parameter(0x50, PREFIX + b"\0\0\1\xc1", order), parameter(0x62, text("plant", order), order), order=order),
+                of_endpoint(WRITERS, WRITER, "T", 3, order=order),
+                of_endpoint(READERS, READER, "T", 2, order=order),
             ]
             participants, writers, readers = announced.announced(found + found)
             self.assertEqual(participants, {PREFIX.hex(): "plant"})
@@ -56,18 +57,18 @@ class Announced(unittest.TestCase):
     def test_announcements_behind_other_submessages_and_inline_lists(self):
         before = b"\x0e\1\x0c\0" + PREFIX + b"\x09\3\0\0" + b"\1\1\0\0"
         inline = parameter(0x70, bytes(16)) + parameter(1, b"")
-        found = of_endpoint(announced.WRITERS, WRITER, "T", 2, before=before, inline=inline)
+        found = of_endpoint(WRITERS, WRITER, "T", 2, before=before, inline=inline)
         self.assertEqual(announced.announced([found])[1], [Endpoint(WRITER.hex(), "T", "Type", "transient")])
 
     def test_what_is_cut_off_or_no_announcement_is_passed_over(self):
-        whole = of_endpoint(announced.WRITERS, WRITER, "T", 2)
+        whole = of_endpoint(WRITERS, WRITER, "T", 2)
         for end in range(len(whole)):
             announced.announced([whole[:end]])
         other = of_endpoint(b"\0\0\1\2", WRITER, "T", 2)
         self.assertEqual(announced.announced([b"", b"no message", whole[:60], other]), ({}, [], []))
 
     def test_a_name_with_a_line_feed_is_one_line(self):
-        found = of_endpoint(announced.WRITERS, WRITER, "a\nb\x1b[2J", 2)
+        found = of_endpoint(WRITERS, WRITER, "a\nb\x1b[2J", 2)
         self.assertIn(f"writer {WRITER.hex()} topic a\ufffdb\ufffd[2J type Type transient\n", announced.summary([found]))
 
     def test_settings_are_those_of_durability_service(self):
@@ -80,7 +81,7 @@ class Announced(unittest.TestCase):
         ]
         for values, want in cases:
             for order in "<>":
-                found = of_endpoint(announced.WRITERS, WRITER, "T", 2, service(*values, order=order), order=order)
+                found = of_endpoint(WRITERS, WRITER, "T", 2, service(*values, order=order), order=order)
                 self.assertEqual(announced.announced([found])[1][0].settings, want)
 
 

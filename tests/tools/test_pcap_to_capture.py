@@ -57,6 +57,8 @@ class Packets(unittest.TestCase):
         self.gives(pcap(ethernet(ipv4(udp(b"abc"), extra=bytes(8)))), record(1, b"abc"))
         hop = struct.pack(">BB", 17, 1) + bytes(14)
         self.gives(pcap(ethernet(ipv6(udp(b"y"), 0, hop), 0x86DD)), record(1, b"y"))
+        chain = bytes([43, 0, *bytes(6)]) + bytes([60, 0, *bytes(6)]) + bytes([17, 0, *bytes(6)])
+        self.gives(pcap(ethernet(ipv6(udp(b"y"), 0, chain), 0x86DD)), record(1, b"y"))
         whole = fragment_6(17, 0)
         self.gives(pcap(ethernet(ipv6(udp(b"z"), 44, whole), 0x86DD)), record(1, b"z"))
 
@@ -86,7 +88,9 @@ class Packets(unittest.TestCase):
         padded = ethernet(ipv4(struct.pack(">HHHH", 40000, 7400, 12, 0) + b"abc") + bytes(15))
         promised = ipv4(udp(b"abc"))
         promised = promised[:2] + struct.pack(">H", len(promised) + 1) + promised[4:]
-        self.counts(pcap(padded, ethernet(promised)), cut_off=2)
+        promised_6 = ipv6(udp(b"abc"))
+        promised_6 = promised_6[:4] + struct.pack(">H", len(promised_6) - 40 + 1) + promised_6[6:]
+        self.counts(pcap(padded, ethernet(promised), ethernet(promised_6, 0x86DD)), cut_off=3)
         extension = struct.pack(">BB", 17, 9) + bytes(6)
         self.counts(pcap(ethernet(ipv6(b"", 0, extension), 0x86DD), ethernet(ipv6(udp(b"abc"))[:-1], 0x86DD)), cut_off=2)
 
@@ -230,6 +234,13 @@ class Runs(unittest.TestCase):
         self.refuses(1, "No such file", "--output", "missing/out", "in.pcap")
         self.assertEqual(self.got("out"), b"old")
         self.assertEqual(sorted(os.listdir(self.folder)), ["broken.pcap", "in.pcap", "out", "plan.txt"])
+
+    def test_no_file_is_left_where_writing_fails(self):
+        folder = os.path.join(self.folder, "empty")
+        os.mkdir(folder)
+        with self.assertRaises(TypeError):
+            pcap_to_capture.write_whole(os.path.join(folder, "out"), "no octets")
+        self.assertEqual(os.listdir(folder), [])
 
     def test_a_link_is_followed_and_a_device_is_written_as_it_is(self):
         self.put("target", b"old")
