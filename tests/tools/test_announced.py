@@ -22,12 +22,12 @@ def text(value, order="<"):
     return struct.pack(order + "I", len(octets)) + octets + bytes(-len(octets) % 4)
 
 
-def announcement(writer, *parameters, order="<", before=b"", inline=b""):
-    """A message of one DATA of a discovery writer, behind other submessages."""
+def announcement(writer, *parameters, order="<", before=b"", inline=b"", form=4):
+    """A message of one DATA of a discovery writer, behind other submessages; the form is its payload's flag."""
     little = order == "<"
     payload = (b"\0\3" if little else b"\0\2") + b"\0\0" + b"".join(parameters) + parameter(1, b"", order)
     body = struct.pack(order + "HH", 0, 16) + bytes(4) + writer + struct.pack(order + "II", 0, 1) + inline + payload
-    flags = 4 | little | (2 if inline else 0)
+    flags = form | little | (2 if inline else 0)
     return b"RTPS\2\5\0\0" + PREFIX + before + struct.pack(order + "BBH", 0x15, flags, len(body)) + body
 
 
@@ -64,8 +64,8 @@ class Announced(unittest.TestCase):
         whole = of_endpoint(WRITERS, WRITER, "T", 2)
         for end in range(len(whole)):
             announced.announced([whole[:end]])
-        other = of_endpoint(b"\0\0\1\2", WRITER, "T", 2)
-        self.assertEqual(announced.announced([b"", b"no message", whole[:60], other]), ({}, [], []))
+        other, disposed = of_endpoint(b"\0\0\1\2", WRITER, "T", 2), of_endpoint(WRITERS, WRITER, "T", 2, form=8)
+        self.assertEqual(announced.announced([b"", b"no message", whole[:60], other, disposed]), ({}, [], []))
 
     def test_a_name_with_a_line_feed_is_one_line(self):
         found = of_endpoint(WRITERS, WRITER, "a\nb\x1b[2J", 2)
@@ -83,6 +83,8 @@ class Announced(unittest.TestCase):
             for order in "<>":
                 found = of_endpoint(WRITERS, WRITER, "T", 2, service(*values, order=order), order=order)
                 self.assertEqual(announced.announced([found])[1][0].settings, want)
+        short = of_endpoint(WRITERS, WRITER, "T", 2, parameter(0x1E, bytes(24)))
+        self.assertEqual(announced.announced([short])[1][0].settings, announced.SETTINGS)
 
 
 class Plans(unittest.TestCase):
