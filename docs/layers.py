@@ -6,8 +6,8 @@ LAYERS = [
     ("program", [("durability", "command line, listing"), ("dur_rerun", "statuses, show")]),
     ("histories", [("dur_store", "history of a topic"), ("dur_view", "definitions and laws")]),
     ("streams", [("dur_capture", "records of a capture"), ("dur_qos", "plan text"), ("rel_reader", "known numbers")]),
-    ("wire", [("rtps_submsg", "submessages"), ("rtps_params", "parameter lists"), ("rtps_message", "facts, keys, messages")]),
-    ("threads", [("dur_turn", "one call at a time")]),
+    ("wire", [("rtps_params", "parameter lists"), ("rtps_submsg", "submessages"), ("rtps_message", "facts, keys, messages")]),
+    ("threads", [("dur_turn", "one call at a time"), ("turn_uses", "uses of a turn, tests")]),
     ("below all", [("dur_outside", "files, sockets, streams"), ("dur_base", "values, octets")]),
 ]
 WIDTH, LEFT, BOX, TALL, GAP, ROW = 740, 130, 178, 44, 18, 70
@@ -35,13 +35,17 @@ def layer(row, name, crates, at):
 
 
 def way(at):
-    """The way of a datagram: outside, capture, submessage, store, program."""
-    outside, capture, message, store, program = (at[name] for name in ("dur_outside", "dur_capture", "rtps_submsg", "dur_store", "durability"))
-    middle, right = TALL // 2, LEFT + BOX
+    """The way of a datagram: outside, capture, wire, and from there by way of the store, or to the printer of `show`."""
+    outside, capture, wire, store, program, printer = (
+        at[name] for name in ("dur_outside", "dur_capture", "rtps_params", "dur_store", "durability", "dur_rerun")
+    )
+    middle, centre, top = TALL // 2, LEFT + BOX // 2, wire[1] - 8
     yield f"M{LEFT} {outside[1] + middle} C{LEFT - 26} {outside[1] + middle} {LEFT - 26} {capture[1] + middle} {LEFT} {capture[1] + middle}"
-    yield f"M{LEFT + BOX // 2} {capture[1] + TALL} L{LEFT + BOX // 2} {message[1]}"
-    yield f"M{right} {message[1] + middle} C{right + 14} {message[1] + middle} {right + 14} {store[1] + middle} {right} {store[1] + middle}"
-    yield f"M{LEFT + BOX // 2} {store[1]} L{LEFT + BOX // 2} {program[1] + TALL}"
+    yield f"M{centre} {capture[1] + TALL} L{centre} {top}"
+    for column, (x, y) in ((1, store), (2, printer)):
+        gap = LEFT + column * (BOX + GAP) - GAP // 2
+        yield f"M{gap} {top} L{gap} {y + middle} L{x + BOX} {y + middle}"
+    yield f"M{centre} {store[1]} L{centre} {program[1] + TALL}"
 
 
 def drawing():
@@ -54,8 +58,8 @@ def drawing():
         yield from layer(row, name, crates, at)
     for line in way(at):
         yield f'<path d="{line}" fill="none" stroke="{WAY}" stroke-width="1.6" marker-end="url(#tip)"/>'
-    for row, words in enumerate(("the way of a datagram:", "octets, record, DATA, entry, line")):
-        yield f'<text x="{LEFT + 2 * (BOX + GAP)}" y="{42 + row * 16}" fill="{WAY}" font-size="12">{words}</text>'
+    for row, words in enumerate(("the way of a datagram:", "list: octets, record, entry, line", "show: octets, record, facts, line")):
+        yield f'<text x="{LEFT + 2 * (BOX + GAP)}" y="{34 + row * 16}" fill="{WAY}" font-size="12">{words}</text>'
     yield "</svg>"
 
 

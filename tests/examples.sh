@@ -25,6 +25,9 @@ says first "$(cat "$folder/out")"
 echo "first: as examples/README.md says"
 if ! command -v python3 > /dev/null; then echo "tests/examples.sh: real traffic skipped, python3 is missing"; exit 0; fi
 python3 tools/capture_from_hex.py < examples/first/capture.hex | cmp - examples/first/capture.bin
+python3 tools/pcap_to_capture.py --summary examples/fastdds/capture.pcap 2> /dev/null | sed 's/^./    &/' > "$folder/summary"
+sed -n '/^    participant /,/^    Note: where /p' examples/README.md | cmp - "$folder/summary" || fails "summary: examples/README.md says something else"
+echo "summary: as examples/README.md says"
 for name in cyclonedds fastdds; do
     python3 tools/pcap_to_capture.py --plan "examples/$name/plan.txt" "examples/$name/capture.pcap" > "$folder/in" 2> "$folder/told" || fails "$name: $(cat "$folder/told")"
     "$program" show < "$folder/in" > "$folder/out" || fails "$name: show ended with $?"
