@@ -116,14 +116,14 @@ def pcapng_packets(data):
     """The packets of a pcapng file."""
     place, order, interfaces = 0, "<", []
     while place < len(data):
-        if data[place : place + 4] == b"\x0a\x0d\x0d\x0a":
-            magic = data[place + 8 : place + 12]
+        front, magic = field(data, place, "4s4x4s", "a block's header")
+        if front == b"\x0a\x0d\x0d\x0a":
             if magic not in (b"\x4d\x3c\x2b\x1a", b"\x1a\x2b\x3c\x4d"):
                 raise BadFile(place + 8, "the section has no byte order")
             order, interfaces = "<" if magic == b"\x4d\x3c\x2b\x1a" else ">", []
             if field(data, place + 12, order + "H", "a section's header")[0] != 1:
                 raise BadFile(place + 12, "pcapng of another version than 1 is not read")
-        kind, length = field(data, place, order + "II", "a block's header")
+        kind, length = struct.unpack_from(order + "II", data, place)
         end = place + length
         if length < LEAST.get(kind, 12) or length % 4 or end > len(data):
             raise BadFile(place + 4, "the block's length does not fit")

@@ -103,6 +103,11 @@ class Packets(unittest.TestCase):
         self.gives(file, record(3, b"c", 7411), sources=[SOURCE_6], ports=[7411])
         self.assertEqual(pcap_to_capture.convert(file, [7400])[1], {"datagrams": 1, "filtered out": 2})
 
+    def test_the_longest_datagram(self):
+        longest, longer = (pcap(ipv6(udp(bytes(length))), link=229) for length in (65507, 65508))
+        self.gives(longest, record(1, bytes(65507)))
+        self.counts(longer, too_long=1)
+
 
 class Files(unittest.TestCase):
     def gives(self, file, want):
@@ -157,7 +162,11 @@ class Files(unittest.TestCase):
     def test_broken_pcapng_is_told_by_its_place(self):
         head = section() + interface()
         whole = head + packet_block(ethernet(ipv4(udp(b"ng"))), HALF_MICROSECONDS)
-        self.breaks(whole[:6], 8)
+        for end in (4, 6, 11):
+            self.breaks(whole[:end], 0)
+            self.breaks(whole + whole[:end], len(whole))
+        self.breaks(whole[:8] + bytes(4) + whole[12:], 8, "byte order")
+        self.breaks(whole[:12], 12)
         self.breaks(section(version=2), 12, "version")
         self.breaks(whole[:-1], len(head) + 4)
         self.breaks(whole[:-4] + bytes(4), len(whole) - 4, "two lengths")
