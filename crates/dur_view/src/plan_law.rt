@@ -1,0 +1,10 @@
+//! Laws on plans and the views that they begin.
+
+ghost use Rattle.dur_qos.specs.declared.plan.Plan.{Plan};
+ghost use Rattle.dur_qos.specs.Good.{GoodPlan};
+ghost use Rattle.dur_view.specs.IsSound.{GoodTopics};
+
+/// The topics of a good plan are those that a sound view may have.
+pub fn good_plans_have_good_topics()
+    ensures { (plan : Plan) → GoodPlan plan → GoodTopics plan.topics }
+{}
