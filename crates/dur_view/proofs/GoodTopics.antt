@@ -15,7 +15,7 @@ abbrev differ : Topic → Topic → Bool
 differ a b = not (bytes_eq a.name b.name)
 
 -- one name is not another where the other is not the one
-turned : (a b : List ℕ) (x : Bool) → bytes_eq a b ≡ x → bytes_eq b a ≡ false → x ≡ false
+pub turned : (a b : List ℕ) (x : Bool) → bytes_eq a b ≡ x → bytes_eq b a ≡ false → x ≡ false
 turned a b false is other = refl
 turned a b true is other = let back = (bytes_eq-Decides b a).1 (sym ((bytes_eq-Decides a b).0 is)) in absurd (cc)
 

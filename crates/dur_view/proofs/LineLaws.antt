@@ -1,16 +1,13 @@
 -- What is said of an instance is carried from event to event.
-use Rattle.std.proofs.Common.{◌≡◌, ℕ, ◌+◌, ◌*◌, ◌^◌, ◌≤◌, ◌<◌, ◌-◌, ◌||◌, not, Bool, true, false, cond, map, List, [], ◌∷◌, ◌++◌, length, take, get_or, refl, sym, ap, ◌∙◌, arith}
+use Rattle.std.proofs.Common.{◌≡◌, ℕ, ◌+◌, ◌*◌, ◌^◌, ◌≤◌, ◌<◌, ◌-◌, ◌||◌, Bool, true, false, cond, map, List, [], ◌∷◌, ◌++◌, length, take, get_or, refl, sym, ap, ◌∙◌, arith}
 use Rattle.std.proofs.lemmas.List.{take_more}
 use Rattle.dur_view.specs.Identities.{Key}
 use Rattle.dur_view.specs.declared.line.Line.{Line}
 use Rattle.dur_view.specs.History.{Event, Effect, Gone}
 use Rattle.dur_view.specs.Past.{Made, Past, ◌▹◌, ◌▹▹◌}
-use Rattle.std.specs.Prelude.{nat_le, filter}
-use Rattle.std.proofs.lemmas.List.Elements.{filter-append}
-use Rattle.dur_view.specs.Snapshot.{change_of}
-use Rattle.dur_view.specs.Entitled.{sent_of}
+use Rattle.std.specs.Prelude.{nat_le}
 use Rattle.dur_qos.specs.declared.plan.Topic.{Topic}
-use Rattle.dur_view.specs.Fates.{settings, delay, is_of, count, purged_upto, quiet_since, is_long, is_expired, is_over_by, reaches, is_displaced, is_purged_with, has_fate, told}
+use Rattle.dur_view.specs.Fates.{settings, delay, is_of, count, purged_upto, quiet_since, is_long, is_expired, is_over_by, reaches, is_displaced, is_purged_with, has_fate}
 use Rattle.dur_view.specs.Lines.{line_after_event, line_in_past}
 use Rattle.dur_view.proofs.SameEffects.{add_append}
 use Rattle.dur_view.proofs.Parts.{settings-extend}
@@ -57,9 +54,3 @@ fate-is p now c l topic longest later expired displaced purged all set line long
 pub map-append : {X Y : Type 0} (f : X → Y) (xs ys : List X) → map f (xs ++ ys) ≡ map f xs ++ map f ys
 map-append f [] ys = refl
 map-append f (x ∷ xs) ys = ap (λ l. f x ∷ l) (map-append f xs ys)
-
-pub sent-append : (p : Past) (now : ℕ) (xs ys : List Made) → sent_of p now (xs ++ ys) ≡ sent_of p now xs ++ sent_of p now ys
-sent-append p now xs ys =
-    let alive : Made → Bool = λ c. not (has_fate p now c) in
-    ap (λ l. map change_of (map told l)) (filter-append alive xs ys) ∙ ap (λ l. map change_of l) (map-append told (filter alive xs) (filter alive ys))
-    ∙ map-append change_of (map told (filter alive xs)) (map told (filter alive ys))

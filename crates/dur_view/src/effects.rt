@@ -129,8 +129,8 @@ fn first_held(alloc: Global, start: &View, writer: Guid) -> Result<List<Held>, O
     }
 }
 
-// The members of the writer's open set after the entries.
-fn held_over(
+/// The members of the writer's open set after the entries.
+pub fn held_over(
     alloc: Global,
     start: &View,
     entries: &[Entry],

@@ -58,7 +58,8 @@ fn first_line(alloc: Global, start: &View, topic: u32, key: Key) -> Result<Line,
     }
 }
 
-fn settings_of<'a>(start: &'a View, topic: u32) -> &'a Topic
+/// The settings of the topic at a place of the start.
+pub fn settings_of<'a>(start: &'a View, topic: u32) -> &'a Topic
     requires { topic < length start.now.topics }
     ensures { result.now ≡ (part start.now topic).settings }
 {

@@ -1,8 +1,0 @@
-use Rattle.std.proofs.Common.{◌≡◌, map, take}
-use Rattle.std.specs.Prelude.{filter}
-use Rattle.dur_view.specs.Past.{Begin, ◌▹▹◌, part, made_of, is_kept_of}
-use Rattle.dur_view.specs.Entitled.{sent_of}
-use Rattle.dur_view.proofs.entitled.of_start.Given as goal
-
-abbrev pub invariant-loop-kept : goal.invariant-loop-kept
-invariant-loop-kept l = l.list ≡ sent_of (Begin (part l.start l.topic) ▹▹ l.events) l.now (map made_of (filter (is_kept_of l.start l.topic) (take l.kept-index l.start.kept)))

@@ -1,0 +1,10 @@
+use Rattle.std.proofs.Common.{◌≡◌, ◌++◌, not, map, take}
+use Rattle.std.specs.Prelude.{filter}
+use Rattle.dur_view.specs.Past.{Begin, ◌▹▹◌, part}
+use Rattle.dur_view.specs.Fates.{is_purged}
+use Rattle.dur_view.specs.View.{line_of}
+use Rattle.dur_view.proofs.view_lines.add_lines.Given as goal
+
+abbrev pub invariant-loop-key : goal.invariant-loop-key
+invariant-loop-key l =
+    l.list ≡ l.initial.list ++ map (line_of (Begin (part l.start l.topic) ▹▹ l.events) l.topic l.now) (filter (λ k. not (is_purged (Begin (part l.start l.topic) ▹▹ l.events) k l.now)) (take l.key-index l.key-items))

@@ -1,0 +1,143 @@
+//! The changes of a topic that have no fate, over a start and the events after it.
+
+ghost use Rattle.std.specs.Prelude.{◌≡◌, ◌<◌, ◌++◌, [], ◌∷◌, map, length, OnOk, IfOk};
+ghost use Rattle.dur_view.specs.Past.{Begin, ◌▹▹◌, part, is_kept_of};
+ghost use Rattle.dur_view.specs.Fates.{made_by, living};
+ghost use Rattle.dur_view.specs.Living.{made_living, all_made, living_of};
+
+use crate::fates::{Placed, is_gone, line_over};
+use crate::line::changes;
+use crate::{Event, Kept, View};
+use dur_base::{Guid, List, Number, OutOfMemory, Sample, Ticks};
+use std::alloc::Global;
+
+/// A change without a fate, with its place among those of its instance.
+#[derive(Drop)]
+pub struct Living {
+    pub ordinal: u128,
+    pub writer: Guid,
+    pub number: Number,
+    pub sample: Sample,
+}
+
+// Adds the change where it has no fate.
+fn add(
+    alloc: Global,
+    list: &mut List<Living>,
+    start: &View,
+    topic: u32,
+    events: &[Event],
+    now: Ticks,
+    change: &Placed,
+) -> Result<(), OutOfMemory>
+    requires { topic < length start.now.topics }
+    ensures { OnOk result (all_made list.new ≡ all_made list.old ++ living_of (Begin (part start.now topic) ▹▹ events.now) now (record { ordinal = change.now.ordinal; writer = change.now.writer; number = change.now.number; sample = change.now.sample.now } ∷ [])) }
+{
+    if is_gone(alloc, start, topic, events, now, change)? {
+        return Ok(());
+    }
+    let sample = change.sample.copy()?;
+    list.push(Living {
+        ordinal: change.ordinal,
+        writer: change.writer,
+        number: change.number,
+        sample,
+    })
+}
+
+fn is_kept_of(start: &View, topic: u32, kept: &Kept) -> bool
+    ensures { result ≡ is_kept_of start.now topic kept.now }
+{
+    match start.instances.as_slice().get(kept.instance as usize) {
+        Some(line) => line.topic == topic,
+        None => false,
+    }
+}
+
+// Those without a fate of the changes that the start keeps.
+fn of_start(
+    alloc: Global,
+    start: &View,
+    topic: u32,
+    events: &[Event],
+    now: Ticks,
+) -> Result<List<Living>, OutOfMemory>
+    requires { topic < length start.now.topics }
+    ensures { IfOk result (λ l. all_made l ≡ living_of (Begin (part start.now topic) ▹▹ events.now) now (part start.now topic).kept) }
+{
+    let mut list = List::new(alloc);
+    for kept in start.kept.as_slice() {
+        if is_kept_of(start, topic, kept) {
+            let change = Placed {
+                ordinal: kept.ordinal as u128,
+                writer: kept.writer,
+                number: kept.number,
+                sample: &kept.sample,
+            };
+            add(alloc, &mut list, start, topic, events, now, &change)?;
+        }
+    }
+    Ok(list)
+}
+
+// Adds the change that an event is, if it is one and has no fate. These events came before it.
+fn add_event(
+    alloc: Global,
+    list: &mut List<Living>,
+    start: &View,
+    topic: u32,
+    events: &[Event],
+    now: Ticks,
+    before: &[Event],
+    event: &Event,
+) -> Result<(), OutOfMemory>
+    requires { topic < length start.now.topics }
+    ensures { OnOk result (all_made list.new ≡ all_made list.old ++ living_of (Begin (part start.now topic) ▹▹ events.now) now (made_by (Begin (part start.now topic) ▹▹ before.now) event.now)) }
+{
+    if let Event::Effect {
+        writer,
+        number,
+        sample,
+        ..
+    } = event
+    {
+        if changes(sample.act) {
+            let line = line_over(alloc, start, topic, before, sample.key)?;
+            let change = Placed {
+                ordinal: line.changes + 1,
+                writer: *writer,
+                number: *number,
+                sample,
+            };
+            add(alloc, list, start, topic, events, now, &change)?;
+        }
+    }
+    Ok(())
+}
+
+/// The changes without a fate of the topic at a place of the start at a moment, after the events, in the order of effect.
+pub fn living_over(
+    alloc: Global,
+    start: &View,
+    topic: u32,
+    events: &[Event],
+    now: Ticks,
+) -> Result<List<Living>, OutOfMemory>
+    requires { topic < length start.now.topics }
+    ensures { IfOk result (λ l. all_made l ≡ living (Begin (part start.now topic) ▹▹ events.now) now) }
+{
+    let mut list = of_start(alloc, start, topic, events, now)?;
+    for (at, event) in events.iter().enumerate() {
+        add_event(
+            alloc,
+            &mut list,
+            start,
+            topic,
+            events,
+            now,
+            &events[..at],
+            event,
+        )?;
+    }
+    Ok(list)
+}
