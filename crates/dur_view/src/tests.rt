@@ -1,18 +1,27 @@
-//! A small history, from the plan to what it entitles to.
+//! Small histories, from the plan to what they entitle to and what is viewed of them.
 
-ghost use Rattle.std.specs.Prelude.{IfOk, IfSome, ◌+◌, ◌<◌, ◌^◌};
+ghost use Rattle.std.specs.Prelude.{◌≡◌, ℕ, true, IfOk, IfSome, IsTrue, OnOk, ◌+◌, ◌<◌, ◌^◌};
 ghost use Rattle.dur_qos.specs.Good.{GoodPlan};
 ghost use Rattle.dur_view.specs.History.{HasShortNumber};
+ghost use Rattle.dur_view.specs.Identities.{Key as Octets};
+ghost use Rattle.dur_view.specs.Words.{stands, topic_of, is_key_of};
+ghost use Rattle.dur_view.specs.MayAdd.{MayAdd};
 
 use crate::{Store, View};
 use bytes::Bytes;
-use dur_base::{Act, Entry, Form, Guid, Key, Number, Payload, Sample, SetMark, Ticks};
+use dur_base::{
+    Act, Entry, Form, Guid, Key, Number, OutOfMemory, Payload, Sample, SetMark, Shape, Ticks,
+};
 use dur_qos::{Plan, PlanFault, PlanReader};
 use std::alloc::Global;
 
 const W: Guid = Guid([
     0xa1, 0xa1, 0xa1, 0xa1, 0xa1, 0xa1, 0xa1, 0xa1, 0xa1, 0xa1, 0xa1, 0xa1, 0, 0, 1, 2,
 ]);
+
+const AA: Key = Key([0xaa; 16]);
+
+const BB: Key = Key([0xbb; 16]);
 
 fn read(alloc: Global, text: &[u8]) -> Result<Plan, PlanFault>
     ensures { IfOk result (λ p. GoodPlan p) }
@@ -43,7 +52,7 @@ fn took(alloc: Global, number: Number, set: SetMark) -> Option<Entry>
         writer: W,
         number,
         sample: Sample {
-            key: Key([0xaa; 16]),
+            key: AA,
             act: Act::Write,
             stamp: Ticks(5),
             lifespan: None,
@@ -102,4 +111,120 @@ fn an_open_set_has_no_effect(rt: HostRuntime) {
         .entitled(rt.alloc(), 0, Ticks(5))
         .expect(&rt, "memory");
     assert!(rt; whole.changes.len() == 1);
+}
+
+// Whether the view has one topic, whose keys are hashed, and this writer of it.
+fn is_keyed(view: &View, writer: Guid) -> bool
+    ensures known { IsTrue result → stands view.now writer ≡ true }
+    ensures keyed { IsTrue result → (k : Octets) → is_key_of view.now.topics (topic_of view.now writer) k ≡ true }
+{
+    match view.topics.as_slice() {
+        [topic] => match view.writers.as_slice() {
+            [line] => line.guid == writer && line.topic == 0 && topic.shape == Shape::Hash,
+            _ => false,
+        },
+        _ => false,
+    }
+}
+
+// The blank history of a plan with one topic, of depth 2, and this writer.
+fn begin(alloc: Global, writer: Guid) -> Option<Store>
+    ensures { IfSome result (λ s. MayAdd s writer 5) }
+{
+    let text =
+        b"prefix 0102030405060708\ntopic T transient hash 2 - - - - 10\nwriter a1a1a1a1a1a1a1a1a1a1a1a100000102 T -\nend\n";
+    let plan = match read(alloc, text) {
+        Ok(plan) => plan,
+        Err(_) => return None,
+    };
+    let view = match View::blank(&plan) {
+        Ok(view) => view,
+        Err(_) => return None,
+    };
+    if !is_keyed(&view, writer) {
+        return None;
+    }
+    Some(Store::of_view(alloc, view))
+}
+
+fn sample(alloc: Global, key: Key, act: Act, set: SetMark) -> Option<Sample> {
+    let payload = Bytes::copy_from_slice(alloc, b"\0\x01\0\0*\0\0\0").ok()?;
+    Some(Sample {
+        key,
+        act,
+        stamp: Ticks(5),
+        lifespan: None,
+        set,
+        original: None,
+        form: Form::Data,
+        payload: Payload::of(payload),
+    })
+}
+
+// Takes in the writer's next sample at moment 5.
+fn take_in(
+    store: &mut Store,
+    alloc: Global,
+    writer: Guid,
+    key: Key,
+    act: Act,
+    set: SetMark,
+) -> Result<(), OutOfMemory>
+    requires { MayAdd store.old writer 5 }
+    ensures { OnOk result (MayAdd store.new writer 5) }
+{
+    let number = store.next(writer);
+    let sample = sample(alloc, key, act, set).ok_or(OutOfMemory)?;
+    if number.get() > 100 || !sample.is_good() {
+        return Err(OutOfMemory);
+    }
+    store.restore(Entry::Took {
+        moment: Ticks(5),
+        writer,
+        number,
+        sample,
+    })
+}
+
+#[test]
+fn the_view_has_open_sets_quiet_instances_and_new_ordinals(rt: HostRuntime) {
+    let mut store = begin(rt.alloc(), W).expect(&rt, "memory");
+    take_in(&mut store, rt.alloc(), W, AA, Act::Write, SetMark::NoSet).expect(&rt, "memory");
+    take_in(&mut store, rt.alloc(), W, AA, Act::Write, SetMark::NoSet).expect(&rt, "memory");
+    take_in(&mut store, rt.alloc(), W, BB, Act::Write, SetMark::NoSet).expect(&rt, "memory");
+    take_in(&mut store, rt.alloc(), W, AA, Act::Write, SetMark::NoSet).expect(&rt, "memory");
+    take_in(
+        &mut store,
+        rt.alloc(),
+        W,
+        BB,
+        Act::DisposeUnregister,
+        SetMark::NoSet,
+    )
+    .expect(&rt, "memory");
+    let open = SetMark::Of(Number::at(6));
+    take_in(&mut store, rt.alloc(), W, BB, Act::Write, open).expect(&rt, "memory");
+    let view = store.view(rt.alloc(), Ticks(5)).expect(&rt, "memory");
+    assert!(rt; view.last == Ticks(5) && view.topics.len() == 1);
+    match view.writers.as_slice() {
+        [line] => assert!(rt; line.guid == W && line.next.get() == 7 && line.held.len() == 1),
+        _ => assert!(rt; false),
+    }
+    match view.instances.as_slice() {
+        [a, b] => {
+            assert!(rt; a.key == AA && !a.disposed && a.quiet == None && a.changes == 2);
+            assert!(rt; b.key == BB && b.disposed && b.quiet == Some(Ticks(5)) && b.changes == 2);
+            assert!(rt; a.registered.len() == 1 && b.registered.len() == 0);
+        }
+        _ => assert!(rt; false),
+    }
+    match view.kept.as_slice() {
+        [a, b, c, d] => {
+            assert!(rt; a.instance == 0 && a.ordinal == 1 && a.number.get() == 2);
+            assert!(rt; b.instance == 1 && b.ordinal == 1 && b.number.get() == 3);
+            assert!(rt; c.instance == 0 && c.ordinal == 2 && c.number.get() == 4);
+            assert!(rt; d.instance == 1 && d.ordinal == 2 && d.number.get() == 5);
+        }
+        _ => assert!(rt; false),
+    }
 }
