@@ -1,9 +1,9 @@
 -- The blank view of a good plan is sound.
-use Rattle.std.proofs.Common.{◌≡◌, ℕ, Bool, true, false, cond, not, List, [], ◌∷◌, ◌++◌, map, length, refl, sym, ap, ◌∙◌, subst, append_assoc, append-nil, arith}
+use Rattle.std.proofs.Common.{◌≡◌, ℕ, Bool, true, false, cond, not, List, [], ◌∷◌, map, length, refl, sym, ap, ◌∙◌, subst, arith}
 use Rattle.std.specs.Prelude.{nat_lt, nat_le}
 use Rattle.std.specs.List.{list_all, AllByRecursion}
 use Rattle.std.specs.Str.{bytes_eq}
-use Rattle.std.proofs.lemmas.Bool.{and_parts, lt-ltb}
+use Rattle.std.proofs.lemmas.Bool.{lt-ltb}
 use Rattle.std.proofs.lemmas.List.{length-map}
 use Rattle.dur_base.specs.Goodness.{IsGood}
 use Rattle.dur_qos.specs.declared.plan.Plan.{Plan}
@@ -15,6 +15,7 @@ use Rattle.dur_view.specs.Words.{is_same, is_key_of}
 use Rattle.dur_view.specs.IsSound.{IsSound, each_two, is_open_set}
 use Rattle.dur_view.specs.Full.{blank, first_line}
 use Rattle.dur_view.proofs.BlankViews.{blank-is}
+use Rattle.dur_view.proofs.EachTwo.{two-new, two-map}
 use Rattle.dur_view.proofs.GoodTopics.{good-topics, turned}
 use Rattle.dur_view.proofs.SoundWriterLaws.{and-both}
 
@@ -49,22 +50,8 @@ others (s ∷ seen) w none =
     let here = other-at (bytes_eq w.guid s.guid) (has_writer w.guid seen) none in
     (ap not (turned s.guid w.guid (bytes_eq s.guid w.guid) refl here.0), others seen w here.1)
 
-all-more : (test : KeptWriter → Bool) (xs : List WriterLine) (x : WriterLine) → list_all test (map first_line xs) ≡ true → test (first_line x) ≡ true → list_all test (map first_line (xs ++ x ∷ [])) ≡ true
-all-more test [] x all one = and-both (test (first_line x)) true one refl
-all-more test (y ∷ xs) x all one =
-    let parts = and_parts (test (first_line y)) (list_all test (map first_line xs)) all in
-    and-both (test (first_line y)) (list_all test (map first_line (xs ++ x ∷ []))) parts.0 (all-more test xs x parts.1 one)
-
-differ-more : (xs : List WriterLine) (x : WriterLine) → each_two differ (map first_line xs) ≡ true → AllByRecursion (λ s. differ (first_line s) (first_line x) ≡ true) xs → each_two differ (map first_line (xs ++ x ∷ [])) ≡ true
-differ-more [] x two others = refl
-differ-more (y ∷ xs) x two others =
-    let parts = and_parts (list_all (differ (first_line y)) (map first_line xs)) (each_two differ (map first_line xs)) two in
-    and-both (list_all (differ (first_line y)) (map first_line (xs ++ x ∷ []))) (each_two differ (map first_line (xs ++ x ∷ []))) (all-more (differ (first_line y)) xs x parts.0 others.0) (differ-more xs x parts.1 others.1)
-
-all-differ : (seen rest : List WriterLine) → EachIsNew (λ seen w. has_writer w.guid seen ≡ false) seen rest → each_two differ (map first_line seen) ≡ true → each_two differ (map first_line (seen ++ rest)) ≡ true
-all-differ seen [] new two = ap (λ (l : List WriterLine). each_two differ (map first_line l)) (append-nil seen) ∙ two
-all-differ seen (w ∷ ws) new two =
-    ap (λ (l : List WriterLine). each_two differ (map first_line l)) (sym (append_assoc seen (w ∷ []) ws)) ∙ all-differ (seen ++ w ∷ []) ws new.1 (differ-more seen w two (others seen w new.0))
+all-differ : (ws : List WriterLine) → EachIsNew (λ seen w. has_writer w.guid seen ≡ false) [] ws → each_two differ (map first_line ws) ≡ true
+all-differ ws new = two-map differ first_line ws ∙ two-new (λ a b. differ (first_line a) (first_line b)) (λ seen w. has_writer w.guid seen ≡ false) others [] ws new refl
 
 sound-lines : (plan : Plan) → GoodPlan plan → IsSound record { last = 0; topics = plan.topics; writers = map first_line plan.writers; instances = []; kept = [] }
 sound-lines plan good =
@@ -74,7 +61,7 @@ sound-lines plan good =
     let early = always-first (λ w. list_all (λ x. nat_le x.moment 0) w.held) (λ w. refl) ws in
     record {
       in_range = and-both (list_all (λ w. nat_lt w.topic (length plan.topics)) (map first_line ws)) true (all-first (λ w. nat_lt w.topic (length plan.topics)) ws (places (length plan.topics) ws good.writers)) refl;
-      differ = all-differ [] ws good.writer_guids refl;
+      differ = all-differ ws good.writer_guids;
       instances_in_order = refl;
       registered_in_order = refl;
       kept_in_order = refl;

@@ -13,5 +13,5 @@ loop-at-preserved c =
     let before = start ▹▹ take c.loop-at.at c.args.events.now in
     let event = c.index-events-at.result in
     let more = past-more start c.args.events.now c.loop-at.at event c.loop-at-test.true c.index-events-at.is in
-    c.in_ok-add_event.ensures ∙ ap (λ (l : List Made). l ++ living_of whole c.args.now (made_by before event)) c.loop-at.invariant
+    c.in_ok-add_event.ensures ∙ ap (λ (l : List Made). l ++ living_of whole c.args.now (made_by before event)) {y = living_of whole c.args.now (made before)} c.loop-at.invariant
     ∙ sym (living-append whole c.args.now (made before) (made_by before event)) ∙ ap (λ p. living_of whole c.args.now (made p)) (sym more)
