@@ -150,7 +150,7 @@ all-lines : (test : Instance → Bool) (p : Past) (t m : ℕ) (ks : List Key) �
 all-lines test p t m [] each = refl
 all-lines test p t m (k ∷ ks) each = and-both (test (line_of p t m k)) (list_all test (map (line_of p t m) ks)) (each k) (all-lines test p t m ks each)
 
-all-upto : (test : Instance → Bool) (n : ℕ) (h : History) (m : ℕ) → ((t : ℕ) (k : Key) → t < n → test (line_of (past t h) t m k) ≡ true) → list_all test (instances_upto n h m) ≡ true
+pub all-upto : (test : Instance → Bool) (n : ℕ) (h : History) (m : ℕ) → ((t : ℕ) (k : Key) → t < n → test (line_of (past t h) t m k) ≡ true) → list_all test (instances_upto n h m) ≡ true
 all-upto test zero h m each = refl
 all-upto test (suc t) h m each =
     all-append test (instances_upto t h m) (lines_at t (past t h) m) (all-upto test t h m (λ u k lt. each u k (omega arith))) (all-lines test (past t h) t m (existing (past t h) m) (λ k. each t k (omega arith)))

@@ -25,11 +25,11 @@ pub and-both : (a b : Bool) → a ≡ true → b ≡ true → (a && b) ≡ true
 and-both a b p q = cc
 
 -- the members of a writer's open set, up to a moment
-record SoundSet (topics : List Topic) (t last next : ℕ) (members : List Held) : Type 0 where
-  set : is_open_set next members ≡ true
-  early : list_all (λ x. nat_le x.moment last) members ≡ true
-  good : AllByRecursion (λ x. IsGood x.sample) members
-  keys : list_all (λ x. is_key_of topics t x.sample.key) members ≡ true
+pub record SoundSet (topics : List Topic) (t last next : ℕ) (members : List Held) : Type 0 where
+  pub set : is_open_set next members ≡ true
+  pub early : list_all (λ x. nat_le x.moment last) members ≡ true
+  pub good : AllByRecursion (λ x. IsGood x.sample) members
+  pub keys : list_all (λ x. is_key_of topics t x.sample.key) members ≡ true
 
 no-set : (topics : List Topic) (t last next : ℕ) → SoundSet topics t last next []
 no-set topics t last next = record { set = refl; early = refl; good = tt; keys = refl }
@@ -166,7 +166,7 @@ keys-of topics last [] all = refl
 keys-of topics last (w ∷ ws) all =
     and-both (list_all (λ (x : Held). is_key_of topics w.topic x.sample.key) w.held) (list_all (λ (y : KeptWriter). list_all (λ (x : Held). is_key_of topics y.topic x.sample.key) y.held) ws) all.0.keys (keys-of topics last ws all.1)
 
-set-of : (h : History) (w : Guid) → IsHistory h → stands (start h) w ≡ true → SoundSet (start h).topics (topic_of (start h) w) (moment h) (next h w) (held h w)
+pub set-of : (h : History) (w : Guid) → IsHistory h → stands (start h) w ≡ true → SoundSet (start h).topics (topic_of (start h) w) (moment h) (next h w) (held h w)
 set-of (Start v) w sound there =
     set-at-start v.topics v.last v.writers w (together v.topics v.last v.writers sound.sets_open (and_parts (list_all (λ (w : KeptWriter). list_all (λ (x : Held). nat_le x.moment v.last) w.held) v.writers) _ sound.early).0 sound.samples_held sound.keys_held) there
 set-of (h ▸ Took m u n s) w follow there = took-at h m u w n s (is_same u w) refl follow.1 (set-of h w follow.0 there)
