@@ -1,12 +1,11 @@
 -- The ordinals of the kept changes of one instance rise.
-use Rattle.std.proofs.Common.{◌≡◌, ℕ, ◌+◌, ◌≤◌, ◌<◌, Bool, true, false, cond, not, ◌&&◌, ◌||◌, Option, Some, None, List, [], ◌∷◌, ◌++◌, length, refl, sym, ap, ◌∙◌, subst, append_assoc, arith}
+use Rattle.std.proofs.Common.{◌≡◌, ℕ, ◌+◌, ◌≤◌, ◌<◌, Bool, true, false, cond, not, ◌||◌, Option, Some, None, List, [], ◌∷◌, ◌++◌, refl, sym, ap, ◌∙◌, subst, append_assoc, arith}
 use Rattle.std.specs.Prelude.{filter, find, count_by, slice_get, nat_lt, ◌==◌}
 use Rattle.std.specs.List.{list_all}
-use Rattle.std.proofs.lemmas.Bool.{eqb-true, lt-ltb, or_right}
+use Rattle.std.proofs.lemmas.Bool.{eqb-true, lt-ltb}
 use Rattle.std.proofs.lemmas.List.Sums.{sum_by-append}
 use Rattle.dur_view.specs.Identities.{Key}
 use Rattle.dur_view.specs.declared.data.Instance.{Instance}
-use Rattle.dur_view.specs.declared.data.Kept.{Kept}
 use Rattle.dur_view.specs.Past.{Made, Past}
 use Rattle.dur_view.specs.Fates.{settings, exists, has_fate, made, living}
 use Rattle.dur_view.specs.View.{is_made_of, counted, line_of, lines_at, place_of, kept_from, kept_of}

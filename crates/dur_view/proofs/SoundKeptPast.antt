@@ -1,6 +1,6 @@
 -- Along a history: the listed changes are good changes with rising ordinals, and the keys are keys of their topic.
-use Rattle.std.proofs.Common.{◌≡◌, ℕ, ◌+◌, ◌<◌, Bool, true, false, cond, not, ◌&&◌, ◌||◌, List, [], ◌∷◌, ◌++◌, map, refl, sym, ap, ◌∙◌, subst, append-nil, arith}
-use Rattle.std.specs.Prelude.{filter, nat_lt, nat_le, ◌==◌}
+use Rattle.std.proofs.Common.{◌≡◌, ℕ, ◌+◌, ◌<◌, Bool, true, false, cond, List, [], ◌∷◌, ◌++◌, map, refl, sym, ap, subst, append-nil, arith}
+use Rattle.std.specs.Prelude.{◌==◌}
 use Rattle.std.specs.List.{list_all, AllByRecursion}
 use Rattle.std.specs.Ordering.{match_ordering}
 use Rattle.std.specs.declared.cmp.Ordering.{Ordering}
@@ -15,15 +15,15 @@ use Rattle.dur_base.specs.declared.sample.SetMark.TheVariants.{NoSet, End, Of}
 use Rattle.dur_qos.specs.declared.plan.Topic.{Topic}
 use Rattle.dur_view.specs.Identities.{Guid, Key}
 use Rattle.dur_view.specs.declared.data.Held.{Held}
-use Rattle.dur_view.specs.Words.{is_key, is_change, is_key_of, topic_of, stands, place_in}
-use Rattle.dur_view.specs.History.{History, Start, ◌▸◌, start, held, writer_of, Event, Effect, Gone, itself, goes_on, brings, brings_to, HasGoodSample, Follows}
-use Rattle.dur_view.specs.Past.{Made, Past, ◌▹◌, ◌▹▹◌, past}
+use Rattle.dur_view.specs.Words.{is_key, is_change, is_key_of, topic_of, place_in}
+use Rattle.dur_view.specs.History.{History, start, held, writer_of, Event, Effect, Gone, itself, goes_on, brings, brings_to, Follows}
+use Rattle.dur_view.specs.Past.{Made, Past, ◌▹◌, ◌▹▹◌}
 use Rattle.dur_view.specs.Fates.{count, made, with_key, keys, key_cmp}
 use Rattle.dur_view.specs.Sound.{Each, Listed, Ordered, EachKey}
 use Rattle.dur_view.specs.IsSound.{IsHistory}
 use Rattle.dur_view.proofs.Base.{is_key-true}
 use Rattle.dur_view.proofs.KeptChanges.{Each-append, Each-weaken, Ordered-step}
-use Rattle.dur_view.proofs.SoundKeptLists.{each-join, untested}
+use Rattle.dur_view.proofs.SoundKeptLists.{each-join}
 use Rattle.dur_view.proofs.SoundWriterLaws.{set-of}
 
 -- ---- what an entry brings

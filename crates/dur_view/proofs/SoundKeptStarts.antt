@@ -1,5 +1,5 @@
 -- A sound start lists good changes with rising ordinals, and keys of its topics; so does each history over it.
-use Rattle.std.proofs.Common.{◌≡◌, ℕ, ◌<◌, Bool, true, false, cond, not, ◌&&◌, ◌||◌, List, [], ◌∷◌, map, refl, sym, ap, ◌∙◌, subst, arith}
+use Rattle.std.proofs.Common.{◌≡◌, ℕ, Bool, true, false, cond, not, ◌||◌, List, [], ◌∷◌, map, refl, sym, ap, ◌∙◌, subst}
 use Rattle.std.specs.Prelude.{filter, nat_lt, ◌==◌}
 use Rattle.std.specs.List.{list_all, AllByRecursion}
 use Rattle.std.proofs.lemmas.Bool.{and_parts, eqb-true, eq-eqb, ltb-true}
@@ -16,10 +16,9 @@ use Rattle.dur_view.specs.Sound.{Each, EachKey}
 use Rattle.dur_view.specs.IsSound.{IsSound, IsHistory, each_two, instance_says}
 use Rattle.dur_view.proofs.Pairs.{is_key-refl}
 use Rattle.dur_view.proofs.Base.{is_key-true}
-use Rattle.dur_view.proofs.SoundViews.{Stands, stands-of, says-of, same-place, ord_less, keyed, sound_parts}
+use Rattle.dur_view.proofs.SoundViews.{stands-of, says-of, same-place, ord_less, keyed, sound_parts}
 use Rattle.dur_view.proofs.Parts.{Ordered-past}
 use Rattle.dur_view.proofs.FullViews.{sound-of}
-use Rattle.dur_view.proofs.SoundKeptLists.{untested}
 use Rattle.dur_view.proofs.SoundKeptPast.{IsBefore, Climbs, IsGoodChange, Proper, Proper-extend, good-brings_to}
 
 -- what is known of those of a topic

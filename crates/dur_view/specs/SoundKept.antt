@@ -1,5 +1,5 @@
 -- What a sound view says of its kept changes and of its instances' keys.
-use Rattle.std.specs.Prelude.{◌≡◌, Bool, true, ◌&&◌, ◌||◌, ◌==◌, not, nat_lt, nat_le, None, length, slice_get, unwrap_or, option_map}
+use Rattle.std.specs.Prelude.{◌≡◌, true, ◌&&◌, ◌||◌, ◌==◌, not, nat_lt, nat_le, None, length, slice_get, unwrap_or, option_map}
 use Rattle.std.specs.List.{list_all, list_any, AllByRecursion}
 use Rattle.dur_base.specs.Goodness.{IsGood}
 use Rattle.dur_view.specs.declared.data.View.{View}
