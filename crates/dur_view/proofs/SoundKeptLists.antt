@@ -37,11 +37,6 @@ pub weaken : {X : Type 0} (P Q : X → Type 0) → ((x : X) → P x → Q x) →
 weaken P Q f [] each = tt
 weaken P Q f (x ∷ xs) each = (f x each.0, weaken P Q f xs each.1)
 
--- and back
-pub untested : {X : Type 0} (test : X → Bool) (xs : List X) → list_all test xs ≡ true → AllByRecursion (λ x. test x ≡ true) xs
-untested test [] all = tt
-untested test (x ∷ xs) all = let parts = and_parts (test x) (list_all test xs) all in (parts.0, untested test xs parts.1)
-
 -- a test of each two follows from what is known of the one and of the other
 pub cross-tested : {X : Type 0} (P Q : X → Type 0) (test : X → X → Bool) → ((x y : X) → P x → Q y → test x y ≡ true) → (xs ys : List X) → AllByRecursion P xs → AllByRecursion Q ys
     → list_all (λ x. list_all (test x) ys) xs ≡ true
