@@ -215,7 +215,7 @@ differ-map h (w ∷ ws) =
     let rest = differ-map h ws in
     cc
 
-length-lines : (h : History) (ws : List KeptWriter) → length (map (line_after h) ws) ≡ length ws
+pub length-lines : (h : History) (ws : List KeptWriter) → length (map (line_after h) ws) ≡ length ws
 length-lines h [] = refl
 length-lines h (w ∷ ws) = ap (λ n. suc n) (length-lines h ws)
 
