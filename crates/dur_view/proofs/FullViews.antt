@@ -228,12 +228,12 @@ other-writer-at v a b false is there none = is
 other-writer : (v : View) (a b : Guid) → stands v a ≡ true → stands v b ≡ false → is_same a b ≡ false
 other-writer v a b there none = other-writer-at v a b (is_same a b) refl there none
 
-next-untouched : (e : Entry) (w : Guid) (n : ℕ) → is_same (writer_of e) w ≡ false → next_by e w n ≡ n
+pub next-untouched : (e : Entry) (w : Guid) (n : ℕ) → is_same (writer_of e) w ≡ false → next_by e w n ≡ n
 next-untouched (Took m u k s) w n other = cc
 next-untouched (Skip m u from to) w n other = cc
 next-untouched (Lost m u) w n other = refl
 
-held-untouched : (e : Entry) (w : Guid) (l : List Held) → is_same (writer_of e) w ≡ false → held_by e w l ≡ l
+pub held-untouched : (e : Entry) (w : Guid) (l : List Held) → is_same (writer_of e) w ≡ false → held_by e w l ≡ l
 held-untouched (Took m u k s) w l other = cc
 held-untouched (Skip m u from to) w l other = cc
 held-untouched (Lost m u) w l other = cc

@@ -187,7 +187,7 @@ lift line ws (z ∷ zs) other all =
 own-line : (line : KeptWriter) (ws : List KeptWriter) → writer_line (line ∷ ws) line.guid ≡ Some line
 own-line line ws = let own = (bytes_eq-Decides line.guid line.guid).1 refl in cc
 
-own-lines : (ws : List KeptWriter) → each_two (λ a b. not (is_same a.guid b.guid)) ws ≡ true → AllByRecursion (λ z. writer_line ws z.guid ≡ Some z) ws
+pub own-lines : (ws : List KeptWriter) → each_two (λ a b. not (is_same a.guid b.guid)) ws ≡ true → AllByRecursion (λ z. writer_line ws z.guid ≡ Some z) ws
 own-lines [] differ = tt
 own-lines (line ∷ ws) differ =
     let parts = and_parts (list_all (λ (z : KeptWriter). not (is_same line.guid z.guid)) ws) (each_two (λ (a : KeptWriter) (b : KeptWriter). not (is_same a.guid b.guid)) ws) differ in
