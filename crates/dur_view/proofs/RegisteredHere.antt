@@ -38,7 +38,7 @@ keep-at : {A : Type 0} (test : A → Bool) (x : A) (xs : List A) (b : Bool) → 
 keep-at test x xs true one rest = and-both (test x) (list_all test xs) one rest
 keep-at test x xs false one rest = rest
 
-all-keep : {A : Type 0} (test keep : A → Bool) (xs : List A) → list_all test xs ≡ true → list_all test (filter keep xs) ≡ true
+pub all-keep : {A : Type 0} (test keep : A → Bool) (xs : List A) → list_all test xs ≡ true → list_all test (filter keep xs) ≡ true
 all-keep test keep [] all = refl
 all-keep test keep (x ∷ xs) all =
     let parts = and_parts (test x) (list_all test xs) all in keep-at test x (filter keep xs) (keep x) parts.0 (all-keep test keep xs parts.1)
