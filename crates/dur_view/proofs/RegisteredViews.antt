@@ -13,7 +13,7 @@ use Rattle.dur_view.proofs.SoundInstanceLaws.{all-upto}
 use Rattle.dur_view.proofs.QuietMoments.{began, began-past}
 use Rattle.dur_view.proofs.RegisteredHere.{is_here, here-past, here-lines, here-within}
 
-all-weaken : (test other : ℕ → Bool) (xs : List ℕ) → ((x : ℕ) → test x ≡ true → other x ≡ true) → list_all test xs ≡ true → list_all other xs ≡ true
+pub all-weaken : {A : Type 0} (test other : A → Bool) (xs : List A) → ((x : A) → test x ≡ true → other x ≡ true) → list_all test xs ≡ true → list_all other xs ≡ true
 all-weaken test other [] step all = refl
 all-weaken test other (x ∷ xs) step all =
     let parts = and_parts (test x) (list_all test xs) all in and-both (other x) (list_all other xs) (step x parts.0) (all-weaken test other xs step parts.1)
