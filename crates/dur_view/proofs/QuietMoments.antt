@@ -9,7 +9,7 @@ use Rattle.dur_view.specs.declared.data.KeptWriter.{KeptWriter}
 use Rattle.dur_view.specs.declared.data.Instance.{Instance}
 use Rattle.dur_view.specs.Words.{is_key}
 use Rattle.dur_view.specs.History.{History, Start, ◌▸◌, moment, moment_of, brings_to, Event}
-use Rattle.dur_view.specs.Past.{Past, Begin, ◌▹◌, ◌▹▹◌, past, part}
+use Rattle.dur_view.specs.Past.{Past, ◌▹◌, ◌▹▹◌, past, part}
 use Rattle.dur_view.specs.Fates.{line_in, is_of, time_of, is_quiet, quiet_since}
 use Rattle.dur_view.specs.IsSound.{IsHistory, at_most}
 use Rattle.dur_view.proofs.SoundViews.{all-found, all-filter}

@@ -1,16 +1,16 @@
 -- The registered writers of an instance are writers of its topic.
-use Rattle.std.proofs.Common.{◌≡◌, ℕ, zero, suc, ◌+◌, ◌<◌, Bool, true, false, cond, not, ◌&&◌, Option, Some, None, List, [], ◌∷◌, map, length, refl, sym, ap, ◌∙◌, subst, arith}
+use Rattle.std.proofs.Common.{◌≡◌, ℕ, zero, suc, ◌+◌, ◌<◌, Bool, true, false, cond, not, ◌&&◌, Option, Some, None, List, [], ◌∷◌, map, length, refl, ap, ◌∙◌, subst, arith}
 use Rattle.std.specs.Prelude.{◌==◌, nat_lt, filter, is_some, option_map, slice_get, unwrap_or}
 use Rattle.std.specs.List.{list_all}
-use Rattle.std.proofs.lemmas.Bool.{and_parts, eqb-true, lt-ltb}
+use Rattle.std.proofs.lemmas.Bool.{and_parts, eqb-true}
 use Rattle.dur_base.specs.declared.sample.Act.{Act}
 use Rattle.dur_base.specs.declared.sample.Act.TheVariants.{Write, Dispose, Unregister, DisposeUnregister, Marker}
 use Rattle.dur_view.specs.Identities.{Guid, Key}
 use Rattle.dur_view.specs.declared.data.Instance.{Instance}
 use Rattle.dur_view.specs.declared.data.KeptWriter.{KeptWriter}
-use Rattle.dur_view.specs.Words.{is_same, is_key, writer_line, topic_of, place_in, stands}
+use Rattle.dur_view.specs.Words.{is_same, is_key, writer_line, topic_of, place_in}
 use Rattle.dur_view.specs.History.{History, Start, ◌▸◌, start, writer_of, brings_to, Event, Effect, Gone}
-use Rattle.dur_view.specs.Past.{Past, Begin, ◌▹◌, ◌▹▹◌, past, part}
+use Rattle.dur_view.specs.Past.{Past, ◌▹◌, ◌▹▹◌, past, part}
 use Rattle.dur_view.specs.Fates.{line_in, registered, registered_by, with_place}
 use Rattle.dur_view.specs.IsSound.{IsHistory}
 use Rattle.dur_view.specs.View.{line_after}
@@ -96,9 +96,9 @@ here-past t (Start v) k sound =
     let own : Instance → Bool = λ i. i.topic == t in
     here-begin v.writers t (line_in (part v t).lines k)
     (λ i found.
-      let all = all-found here (λ l. is_key l.key k) (part v t).lines i (all-keep here own v.instances sound.registered_here) found in
-      let topic = eqb-true i.topic t (all-found own (λ l. is_key l.key k) (part v t).lines i (all-chosen own v.instances) found) in
-      subst (λ u. list_all (is_here v.writers u) i.registered ≡ true) topic all)
+    let all = all-found here (λ l. is_key l.key k) (part v t).lines i (all-keep here own v.instances sound.registered_here) found in
+    let topic = eqb-true i.topic t (all-found own (λ l. is_key l.key k) (part v t).lines i (all-chosen own v.instances) found) in
+    subst (λ u. list_all (is_here v.writers u) i.registered ≡ true) topic all)
 here-past t (h ▸ e) k follow =
     let test = is_here (start h).writers t in
     let place = λ (is : (topic_of (start h) (writer_of e) == t) ≡ true). here-place t (start h).writers (writer_of e) follow.1.known is in

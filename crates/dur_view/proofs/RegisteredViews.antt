@@ -32,9 +32,9 @@ registered-places h m follow =
     let count = length-lines h ws in
     all-upto (λ i. nat_lt i.topic n && list_all (λ r. nat_lt r (length vs)) i.registered) n h m
     (λ t k lt.
-      and-both (nat_lt t n) (list_all (λ r. nat_lt r (length vs)) (registered (past t h) k)) (lt-ltb t n lt)
-      (all-weaken (is_here ws t) (λ r. nat_lt r (length vs)) (registered (past t h) k)
-      (λ r is. let low = here-within ws t r is in lt-ltb r (length vs) (omega arith)) (here-past t h k follow)))
+    and-both (nat_lt t n) (list_all (λ r. nat_lt r (length vs)) (registered (past t h) k)) (lt-ltb t n lt)
+    (all-weaken (is_here ws t) (λ r. nat_lt r (length vs)) (registered (past t h) k)
+    (λ r is. let low = here-within ws t r is in lt-ltb r (length vs) (omega arith)) (here-past t h k follow)))
 
 pub registered-here : (h : History) (m : ℕ) → IsHistory h
     → list_all (λ i. list_all (λ r. unwrap_or (option_map (λ w. w.topic == i.topic) (slice_get (view h m).writers r)) false) i.registered) (view h m).instances ≡ true

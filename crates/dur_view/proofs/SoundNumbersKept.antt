@@ -1,5 +1,5 @@
 -- The numbers of a view's kept changes.
-use Rattle.std.proofs.Common.{◌≡◌, ℕ, zero, suc, ◌+◌, ◌≤◌, ◌<◌, Bool, true, false, cond, not, ◌&&◌, ◌||◌, Option, Some, None, List, [], ◌∷◌, ◌++◌, map, length, refl, sym, ap, ◌∙◌, subst, arith}
+use Rattle.std.proofs.Common.{◌≡◌, ℕ, zero, suc, ◌+◌, ◌≤◌, ◌<◌, Bool, true, false, cond, not, ◌&&◌, ◌||◌, Option, Some, None, List, [], ◌∷◌, ◌++◌, map, length, refl, sym, ap, ◌∙◌, arith}
 use Rattle.std.specs.Prelude.{◌==◌, nat_lt, is_some, option_map, slice_get, unwrap_or}
 use Rattle.std.specs.List.{list_all, list_any}
 use Rattle.std.proofs.lemmas.Bool.{and_parts, eqb-true, eq-eqb, ltb-true, lt-ltb}
@@ -25,7 +25,7 @@ use Rattle.dur_view.proofs.RegisteredViews.{all-weaken}
 use Rattle.dur_view.proofs.SoundNumbersRise.{Lower, NumbersRise, rise-filter}
 use Rattle.dur_view.proofs.SoundNumbersBounds.{bound, open-is, is_same-refl}
 use Rattle.dur_view.proofs.SoundNumbersStart.{Known, lower}
-use Rattle.dur_view.proofs.SoundNumbersPast.{Numbers, numbers-past, below-past}
+use Rattle.dur_view.proofs.SoundNumbersPast.{numbers-past, below-past}
 
 -- ---- the tests of lists that are joined
 all-append : {A : Type 0} (test : A → Bool) (xs ys : List A) → list_all test xs ≡ true → list_all test ys ≡ true → list_all test (xs ++ ys) ≡ true
@@ -88,10 +88,10 @@ rise-upto h m (suc t) follow =
     (rise-from at p (lines_at t p m) (living p m) [] (living p m) (rise-filter (alive p m) (made p) numbers.rise))
     (all-weaken (λ x. nat_lt (topic_of (start h) x.writer) t) (λ x. list_all (lower x) (kept_of at t p m)) (kept_upto t h m)
     (λ x low.
-      all-from (lower x) (Known (start h) t) at p (lines_at t p m) (living p m) [] (living p m)
-      (λ o c known. lower-at x c.writer c.number (is_same x.writer c.writer) refl
-      (apart (start h) t x c.writer c.number (ltb-true (topic_of (start h) x.writer) t low) (eqb-true (topic_of (start h) c.writer) t known.topic)))
-      (known-living h m t follow))
+    all-from (lower x) (Known (start h) t) at p (lines_at t p m) (living p m) [] (living p m)
+    (λ o c known. lower-at x c.writer c.number (is_same x.writer c.writer) refl
+    (apart (start h) t x c.writer c.number (ltb-true (topic_of (start h) x.writer) t low) (eqb-true (topic_of (start h) c.writer) t known.topic)))
+    (known-living h m t follow))
     (topic-low h m t t (omega arith) follow))
 
 pub numbers-rise : (h : History) (m : ℕ) → IsHistory h → each_two lower (view h m).kept ≡ true

@@ -1,10 +1,9 @@
 -- The numbers of a topic's changes along a history.
-use Rattle.std.proofs.Common.{◌≡◌, ℕ, ◌+◌, ◌<◌, Bool, true, false, cond, List, [], ◌∷◌, ◌++◌, refl, sym, ap, ◌∙◌, subst, append-nil, arith}
+use Rattle.std.proofs.Common.{◌≡◌, ℕ, ◌+◌, ◌<◌, Bool, true, false, cond, List, [], ◌∷◌, ◌++◌, refl, sym, subst, append-nil}
 use Rattle.std.specs.Prelude.{◌==◌}
-use Rattle.dur_base.specs.declared.sample.Sample.{Sample}
 use Rattle.dur_base.specs.declared.entry.Entry.{Entry}
 use Rattle.dur_view.specs.Identities.{Guid}
-use Rattle.dur_view.specs.Words.{is_same, topic_of, place_in, stands, is_change}
+use Rattle.dur_view.specs.Words.{is_same, topic_of, place_in, is_change}
 use Rattle.dur_view.specs.History.{History, Start, ◌▸◌, start, held, writer_of, brings, brings_to, Event, Effect, Gone, Follows}
 use Rattle.dur_view.specs.Past.{Made, Past, ◌▹◌, ◌▹▹◌, past}
 use Rattle.dur_view.specs.Fates.{count, made}

@@ -1,14 +1,13 @@
 -- Changes whose numbers rise, writer by writer, and stay below a bound, over events of one writer with rising numbers.
-use Rattle.std.proofs.Common.{◌≡◌, ℕ, ◌+◌, ◌≤◌, ◌<◌, Bool, true, false, cond, not, List, [], ◌∷◌, ◌++◌, map, refl, sym, ap, ◌∙◌, subst, append-nil, arith}
+use Rattle.std.proofs.Common.{◌≡◌, ℕ, ◌+◌, ◌≤◌, ◌<◌, Bool, true, false, cond, List, [], ◌∷◌, ◌++◌, map, refl, sym, subst, append-nil, arith}
 use Rattle.std.specs.Prelude.{◌==◌, ◌&&◌, filter}
 use Rattle.std.proofs.lemmas.Bool.{and_parts, eqb-true}
-use Rattle.dur_base.specs.declared.sample.Sample.{Sample}
 use Rattle.dur_view.specs.Identities.{Guid}
 use Rattle.dur_view.specs.declared.data.Held.{Held}
 use Rattle.dur_view.specs.Words.{is_same, is_change}
 use Rattle.dur_view.specs.History.{Event, Effect, Gone}
 use Rattle.dur_view.specs.Past.{Made, Past, ◌▹◌, ◌▹▹◌}
-use Rattle.dur_view.specs.Fates.{count, made, made_by}
+use Rattle.dur_view.specs.Fates.{count, made}
 use Rattle.dur_view.specs.IsSound.{is_of_set, run_to}
 use Rattle.dur_view.specs.Sound.{Each}
 use Rattle.dur_view.proofs.KeptChanges.{Each-append, Each-weaken, Each-filter}
