@@ -105,7 +105,7 @@ line-in-at : (up f : ℕ → ℕ) (line : Instance) (o u : Option Instance) (b :
 line-in-at up f line o u true is = refl
 line-in-at up f line o u false is = is
 
-line-in : (up f : ℕ → ℕ) (lines : List Instance) (k : Key) → line_in (map (line_with up f) lines) k ≡ option_map (line_with up f) (line_in lines k)
+pub line-in : (up f : ℕ → ℕ) (lines : List Instance) (k : Key) → line_in (map (line_with up f) lines) k ≡ option_map (line_with up f) (line_in lines k)
 line-in up f [] k = refl
 line-in up f (line ∷ lines) k = line-in-at up f line (line_in lines k) _ (is_key line.key k) (line-in up f lines k)
 
@@ -123,7 +123,7 @@ quiet-at : (up f : ℕ → ℕ) (o : Option Instance) → option_and_then (λ li
 quiet-at up f None = refl
 quiet-at up f (Some line) = refl
 
-some-at : (up f : ℕ → ℕ) (o : Option Instance) → is_some (option_map (line_with up f) o) ≡ is_some o
+pub some-at : (up f : ℕ → ℕ) (o : Option Instance) → is_some (option_map (line_with up f) o) ≡ is_some o
 some-at up f None = refl
 some-at up f (Some line) = refl
 
@@ -140,11 +140,11 @@ pub settings-with : (up f : ℕ → ℕ) (p : Past) → settings (past_with up f
 settings-with up f (Begin v) = refl
 settings-with up f (p ▹ e) = settings-with up f p
 
-is_of-with : (f : ℕ → ℕ) (k : Key) (e : Event) → is_of k (event_with f e) ≡ is_of k e
+pub is_of-with : (f : ℕ → ℕ) (k : Key) (e : Event) → is_of k (event_with f e) ≡ is_of k e
 is_of-with f k (Effect m by w n s) = refl
 is_of-with f k (Gone m by) = refl
 
-time-with : (f : ℕ → ℕ) (e : Event) → time_of (event_with f e) ≡ time_of e
+pub time-with : (f : ℕ → ℕ) (e : Event) → time_of (event_with f e) ≡ time_of e
 time-with f (Effect m by w n s) = refl
 time-with f (Gone m by) = refl
 
