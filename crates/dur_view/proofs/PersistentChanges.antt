@@ -1,14 +1,14 @@
 -- A past with other places has the same changes and instances, and the same of them are there.
-use Rattle.std.proofs.Common.{◌≡◌, ℕ, ◌+◌, ◌-◌, ◌*◌, ◌^◌, Bool, true, false, cond, not, ◌&&◌, ◌||◌, Option, List, [], ◌∷◌, ◌++◌, map, refl, ap, ◌∙◌}
+use Rattle.std.proofs.Common.{◌≡◌, ℕ, ◌+◌, ◌-◌, ◌*◌, ◌^◌, Bool, cond, not, ◌&&◌, ◌||◌, List, [], ◌∷◌, ◌++◌, map, refl, ap, ◌∙◌}
 use mathlib.Core.Path.{fun_ext}
 use Rattle.std.specs.Prelude.{filter, is_some, nat_le, find, count_by}
 use Rattle.dur_view.specs.Identities.{Key}
 use Rattle.dur_qos.specs.declared.plan.Topic.{Topic}
 use Rattle.dur_view.specs.declared.data.Instance.{Instance}
-use Rattle.dur_view.specs.Words.{is_key, is_change}
+use Rattle.dur_view.specs.Words.{is_change}
 use Rattle.dur_view.specs.History.{Event, Effect, Gone}
 use Rattle.dur_view.specs.Past.{Made, Past, Begin, ◌▹◌}
-use Rattle.dur_view.specs.Fates.{settings, delay, line_in, time_of, is_of, count, registered, disposed, quiet_since, is_long, is_purged, purged_upto, was_born, exists, made_by, made, is_expired, reaches, has_fate, living, keys_by, keys, existing}
+use Rattle.dur_view.specs.Fates.{settings, delay, line_in, time_of, is_of, count, quiet_since, is_long, is_purged, purged_upto, was_born, exists, made_by, made, is_expired, reaches, has_fate, living, keys_by, keys, existing}
 use Rattle.dur_view.specs.View.{line_of, lines_at, changes_of, counted, is_made_of}
 use Rattle.dur_view.proofs.PersistentParts.{event_with, line_with, past_with}
 use Rattle.dur_view.proofs.PersistentFates.{KeepsOrder, Placed, line-in, some-at, settings-with, is_of-with, time-with, count-with, disposed-with, registered-with, quiet_since-with}

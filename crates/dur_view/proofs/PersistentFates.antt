@@ -1,19 +1,16 @@
 -- A past with other places tells the same of instances and changes, but for the places.
-use Rattle.std.proofs.Common.{◌≡◌, ℕ, suc, ◌+◌, ◌-◌, Bool, true, false, cond, not, ◌&&◌, ◌||◌, Option, Some, None, List, [], ◌∷◌, map, refl, sym, ap, ◌∙◌}
-use mathlib.Core.Path.{fun_ext}
-use Rattle.std.specs.Prelude.{filter, is_some, nat_lt, nat_le, ◌==◌, option_map, option_and_then, unwrap_or}
+use Rattle.std.proofs.Common.{◌≡◌, ℕ, ◌+◌, Bool, true, false, cond, not, ◌&&◌, Option, Some, None, List, [], ◌∷◌, map, refl, ap, ◌∙◌}
+use Rattle.std.specs.Prelude.{is_some, nat_lt, ◌==◌, option_map, option_and_then, unwrap_or}
 use Rattle.std.specs.List.{list_all}
 use Rattle.std.proofs.lemmas.Bool.{and_parts}
 use Rattle.dur_base.specs.declared.sample.Act.{Act}
 use Rattle.dur_base.specs.declared.sample.Act.TheVariants.{Write, Dispose, Unregister, DisposeUnregister, Marker}
 use Rattle.dur_view.specs.Identities.{Key}
-use Rattle.dur_qos.specs.declared.plan.Topic.{Topic}
 use Rattle.dur_view.specs.declared.data.Instance.{Instance}
-use Rattle.dur_view.specs.Words.{is_key, is_change}
+use Rattle.dur_view.specs.Words.{is_key}
 use Rattle.dur_view.specs.History.{Event, Effect, Gone}
-use Rattle.dur_view.specs.Past.{Made, Past, Begin, ◌▹◌, ◌▹▹◌}
-use Rattle.dur_view.specs.Fates.{settings, delay, line_in, time_of, is_of, count, disposes_by, disposed, with_place, without, registered_by, registered, is_nobody, is_quiet, quiet_since, is_long, is_purged, purged_upto, was_born, exists, made_by, made, is_expired, reaches, has_fate, living, with_key, keys, existing}
-use Rattle.dur_view.specs.View.{line_of, lines_at, changes_of}
+use Rattle.dur_view.specs.Past.{Past, Begin, ◌▹◌}
+use Rattle.dur_view.specs.Fates.{settings, line_in, time_of, is_of, count, disposes_by, disposed, with_place, without, registered_by, registered, is_nobody, is_quiet, quiet_since}
 use Rattle.dur_view.proofs.SoundWriterLaws.{and-both}
 use Rattle.dur_view.proofs.PersistentParts.{event_with, line_with, past_with}
 

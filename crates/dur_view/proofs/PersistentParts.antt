@@ -16,7 +16,7 @@ use Rattle.dur_view.specs.declared.data.Kept.{Kept}
 use Rattle.dur_view.specs.declared.data.View.{View}
 use Rattle.dur_view.specs.Words.{topic_of, place_in}
 use Rattle.dur_view.specs.History.{History, Start, ◌▸◌, start, held, writer_of, goes_on, itself, brings, brings_to, Event, Effect, Gone}
-use Rattle.dur_view.specs.Past.{Made, Part, Past, Begin, ◌▹◌, ◌▹▹◌, past, part, made_of, is_kept_of, no_topic}
+use Rattle.dur_view.specs.Past.{Made, Past, Begin, ◌▹◌, ◌▹▹◌, past, part, made_of, is_kept_of, no_topic}
 use Rattle.dur_view.specs.IsSound.{IsHistory}
 use Rattle.dur_view.specs.Persistent.{is_persistent, passes_at, place_among, writer_stays, instance_stays, instance_among, kept_stays, kept_among, persistent_view, persistent}
 use Rattle.dur_view.proofs.LineLaws.{map-append}

@@ -1,9 +1,9 @@
 -- All places of writers in the past of a persistent topic are of writers that stay.
-use Rattle.std.proofs.Common.{◌≡◌, ℕ, Bool, true, false, cond, ◌&&◌, Option, Some, None, List, [], ◌∷◌, ◌++◌, map, refl, sym, ap, ◌∙◌}
-use Rattle.std.specs.Prelude.{filter, ◌==◌, if◌then◌else◌, option_map, unwrap_or, slice_get}
+use Rattle.std.proofs.Common.{◌≡◌, ℕ, Bool, true, false, cond, Option, Some, None, List, [], ◌∷◌, ◌++◌, map, refl, sym, ap, ◌∙◌}
+use Rattle.std.specs.Prelude.{filter, ◌==◌, option_map, unwrap_or, slice_get}
 use Rattle.std.specs.List.{list_all}
 use Rattle.std.proofs.lemmas.Bool.{and_parts, eqb-true}
-use Rattle.dur_view.specs.Identities.{Key, Guid}
+use Rattle.dur_view.specs.Identities.{Guid}
 use Rattle.dur_base.specs.declared.sample.Sample.{Sample}
 use Rattle.dur_base.specs.declared.sample.SetMark.{SetMark}
 use Rattle.dur_base.specs.declared.sample.SetMark.TheVariants.{NoSet, End, Of}
@@ -14,9 +14,9 @@ use Rattle.dur_view.specs.declared.data.Instance.{Instance}
 use Rattle.dur_view.specs.declared.data.KeptWriter.{KeptWriter}
 use Rattle.dur_view.specs.declared.data.View.{View}
 use Rattle.dur_view.specs.Words.{is_key, topic_of, place_in}
-use Rattle.dur_view.specs.History.{History, Start, ◌▸◌, start, held, writer_of, goes_on, itself, brings, brings_to, Event, Effect, Gone}
+use Rattle.dur_view.specs.History.{History, Start, ◌▸◌, start, held, writer_of, goes_on, itself, brings, brings_to, Event, Effect}
 use Rattle.dur_view.specs.Past.{Past, Begin, ◌▹◌, ◌▹▹◌, past, part}
-use Rattle.dur_view.specs.Fates.{line_in, registered}
+use Rattle.dur_view.specs.Fates.{line_in}
 use Rattle.dur_view.specs.IsSound.{IsSound, IsHistory}
 use Rattle.dur_view.specs.Persistent.{passes_at, writer_stays}
 use Rattle.dur_view.proofs.SoundViews.{all-found, all-filter}

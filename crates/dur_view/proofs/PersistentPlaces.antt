@@ -1,6 +1,6 @@
 -- Places among what passes a test: their order, and what stands there.
-use Rattle.std.proofs.Common.{◌≡◌, ℕ, zero, suc, ◌+◌, ◌≤◌, ◌<◌, Bool, true, false, cond, ◌&&◌, Option, Some, None, List, [], ◌∷◌, ◌++◌, map, length, take, refl, sym, ap, ◌∙◌, arith}
-use Rattle.std.specs.Prelude.{filter, nat_lt, ◌==◌, option_map, unwrap_or, slice_get}
+use Rattle.std.proofs.Common.{◌≡◌, ℕ, zero, suc, ◌+◌, ◌≤◌, ◌<◌, Bool, true, false, cond, Option, Some, List, [], ◌∷◌, ◌++◌, map, length, take, refl, sym, ap, ◌∙◌, arith}
+use Rattle.std.specs.Prelude.{filter, nat_lt, ◌==◌, slice_get}
 use Rattle.std.specs.List.{list_all}
 use Rattle.std.proofs.lemmas.Bool.{and_parts, ltb-true, ltb-false, lt-ltb, le-ltb, eqb-true, eqb-false, eq-eqb, ne_eqb}
 use Rattle.std.proofs.lemmas.List.{take_all, take-append-le}
@@ -10,7 +10,7 @@ among-none : {X : Type 0} (test : X → Bool) (i : ℕ) → place_among test [] 
 among-none test zero = refl
 among-none test (suc i) = refl
 
-among-zero : {X : Type 0} (test : X → Bool) (xs : List X) → place_among test xs 0 ≡ 0
+pub among-zero : {X : Type 0} (test : X → Bool) (xs : List X) → place_among test xs 0 ≡ 0
 among-zero test [] = refl
 among-zero test (x ∷ xs) = refl
 

@@ -1,7 +1,7 @@
 -- The writers of a history's persistent part: their places, next numbers and open sets.
 use Rattle.std.proofs.Common.{◌≡◌, ℕ, suc, ◌+◌, Bool, true, false, cond, Option, Some, None, List, [], ◌∷◌, map, refl, sym, ap, ◌∙◌, arith}
 use Rattle.std.specs.Prelude.{filter, is_some, option_map, unwrap_or, slice_get}
-use Rattle.std.specs.List.{AllByRecursion, list_all}
+use Rattle.std.specs.List.{AllByRecursion}
 use Rattle.dur_view.specs.Identities.{Guid}
 use Rattle.dur_base.specs.declared.entry.Entry.{Entry}
 use Rattle.dur_view.specs.declared.data.Held.{Held}
@@ -15,7 +15,7 @@ use Rattle.dur_view.specs.Persistent.{is_persistent, passes_at, place_among, wri
 use Rattle.dur_view.proofs.SameEffects.{is_same-true}
 use Rattle.dur_view.proofs.FullViews.{sound-of, next-untouched, held-untouched}
 use Rattle.dur_view.proofs.SoundWriterLaws.{own-lines}
-use Rattle.dur_view.proofs.PersistentPlaces.{among-cons, among-map}
+use Rattle.dur_view.proofs.PersistentPlaces.{among-zero, among-cons, among-map}
 
 start-at : (k : History) (e : Entry) (b : Bool) → start (cond b (k ▸ e) k) ≡ start k
 start-at k e true = refl
@@ -56,11 +56,7 @@ line-persistent v w is = line-among v v.writers w (stays-of v (writer_line v.wri
 
 -- the topic and the place of a writer
 topic-at : (v : View) (o : Option KeptWriter) → unwrap_or (option_map (λ line. line.topic) (option_map (writer_among v) o)) 0 ≡ place_among is_persistent v.topics (unwrap_or (option_map (λ line. line.topic) o) 0)
-topic-at v None = sym (zero-at v.topics)
-  where
-    zero-at : (topics : List _) → place_among is_persistent topics 0 ≡ 0
-    zero-at [] = refl
-    zero-at (t ∷ topics) = refl
+topic-at v None = sym (among-zero is_persistent v.topics)
 topic-at v (Some line) = refl
 
 pub topic-persistent : (v : View) (w : Guid) → in_persistent v w ≡ true → topic_of (persistent_view v) w ≡ place_among is_persistent v.topics (topic_of v w)
@@ -152,13 +148,13 @@ writers-at h m line rest true is own more =
     cc
 writers-at h m line rest false is own more = more
 
-filter-lines-at : (v : View) (h : History) (line : KeptWriter) (xs ys : List KeptWriter) (b : Bool) → xs ≡ map (line_after h) ys → cond b (line_after h line ∷ xs) xs ≡ map (line_after h) (cond b (line ∷ ys) ys)
-filter-lines-at v h line xs ys true is = ap (λ l. line_after h line ∷ l) is
-filter-lines-at v h line xs ys false is = is
+filter-lines-at : (h : History) (line : KeptWriter) (xs ys : List KeptWriter) (b : Bool) → xs ≡ map (line_after h) ys → cond b (line_after h line ∷ xs) xs ≡ map (line_after h) (cond b (line ∷ ys) ys)
+filter-lines-at h line xs ys true is = ap (λ l. line_after h line ∷ l) is
+filter-lines-at h line xs ys false is = is
 
 filter-lines : (h : History) (m : ℕ) (ws : List KeptWriter) → filter (writer_stays (view h m)) (map (line_after h) ws) ≡ map (line_after h) (filter (writer_stays (start h)) ws)
 filter-lines h m [] = refl
-filter-lines h m (line ∷ ws) = filter-lines-at (start h) h line _ (filter (writer_stays (start h)) ws) (writer_stays (start h) line) (filter-lines h m ws)
+filter-lines h m (line ∷ ws) = filter-lines-at h line _ (filter (writer_stays (start h)) ws) (writer_stays (start h) line) (filter-lines h m ws)
 
 writers-from : (h : History) (m : ℕ) (ws : List KeptWriter) → AllByRecursion (λ line. writer_line (start h).writers line.guid ≡ Some line) ws
     → map (writer_among (view h m)) (map (line_after h) (filter (writer_stays (start h)) ws)) ≡ map (line_after (persistent h)) (map (writer_among (start h)) (filter (writer_stays (start h)) ws))

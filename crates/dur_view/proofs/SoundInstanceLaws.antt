@@ -146,7 +146,7 @@ all-append test [] ys a b = b
 all-append test (x ∷ xs) ys a b =
     let parts = and_parts (test x) (list_all test xs) a in and-both (test x) (list_all test (xs ++ ys)) parts.0 (all-append test xs ys parts.1 b)
 
-all-lines : (test : Instance → Bool) (p : Past) (t m : ℕ) (ks : List Key) → ((k : Key) → test (line_of p t m k) ≡ true) → list_all test (map (line_of p t m) ks) ≡ true
+pub all-lines : (test : Instance → Bool) (p : Past) (t m : ℕ) (ks : List Key) → ((k : Key) → test (line_of p t m k) ≡ true) → list_all test (map (line_of p t m) ks) ≡ true
 all-lines test p t m [] each = refl
 all-lines test p t m (k ∷ ks) each = and-both (test (line_of p t m k)) (list_all test (map (line_of p t m) ks)) (each k) (all-lines test p t m ks each)
 
