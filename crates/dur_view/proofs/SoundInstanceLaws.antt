@@ -15,8 +15,9 @@ use Rattle.dur_view.specs.History.{History, Start, ◌▸◌, start, brings_to, 
 use Rattle.dur_view.specs.Past.{Past, Begin, ◌▹◌, ◌▹▹◌, past, part}
 use Rattle.dur_view.specs.Fates.{line_in, is_of, time_of, registered, registered_by, with_place, is_nobody, is_quiet, quiet_since, exists, keys, existing, key_cmp}
 use Rattle.dur_view.specs.Sound.{EachKey, Ascending}
-use Rattle.dur_view.specs.IsSound.{IsSound, SoundInstances, each_two, is_same_bool}
+use Rattle.dur_view.specs.IsSound.{IsSound, each_two, is_same_bool}
 use Rattle.dur_view.specs.View.{view, line_of, lines_at, instances_upto}
+use Rattle.dur_view.proofs.SoundRules.{SoundInstances}
 use Rattle.dur_view.proofs.SoundWriterLaws.{and-both}
 use Rattle.dur_view.proofs.SoundViews.{all-found, all-filter, same-bool, sound_parts}
 use Rattle.dur_view.proofs.Parts.{Ascending-past}

@@ -11,7 +11,6 @@ use Rattle.dur_view.specs.Words.{is_key, is_change}
 use Rattle.dur_view.specs.History.{History, start}
 use Rattle.dur_view.specs.Past.{past}
 use Rattle.dur_view.specs.IsSound.{IsHistory, each_two, instance_says, topic_at}
-use Rattle.dur_view.specs.SoundKept.{SoundKept}
 use Rattle.dur_view.specs.View.{view, instances_upto, kept_of, kept_upto}
 use Rattle.dur_view.proofs.Base.{at_or_below}
 use Rattle.dur_view.proofs.KeptChanges.{fits-before}
@@ -19,6 +18,7 @@ use Rattle.dur_view.proofs.SoundViews.{sound_parts, ord_less}
 use Rattle.dur_view.proofs.Parts.{Ordered-past}
 use Rattle.dur_view.proofs.FullViews.{sound-of}
 use Rattle.dur_view.proofs.SoundWriterLaws.{and-both}
+use Rattle.dur_view.proofs.SoundRules.{SoundKept}
 use Rattle.dur_view.proofs.SoundKeptLists.{all-join, each-join, any-first, any-last, two-join, tested, weaken, cross-tested, two-tested}
 use Rattle.dur_view.proofs.SoundKeptStarts.{Proper-past}
 use Rattle.dur_view.proofs.SoundKeptChanges.{FineAt, fine-changes}

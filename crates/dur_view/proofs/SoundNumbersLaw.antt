@@ -2,8 +2,8 @@
 use Rattle.std.proofs.Common.{ℕ, ◌≤◌}
 use Rattle.dur_view.specs.History.{History, moment}
 use Rattle.dur_view.specs.IsSound.{IsHistory}
-use Rattle.dur_view.specs.SoundNumbers.{SoundNumbers}
 use Rattle.dur_view.specs.View.{view}
+use Rattle.dur_view.proofs.SoundRules.{SoundNumbers}
 use Rattle.dur_view.proofs.RegisteredViews.{quiet-early, registered-places, registered-here}
 use Rattle.dur_view.proofs.SoundNumbersKept.{numbers-rise, numbers-below}
 

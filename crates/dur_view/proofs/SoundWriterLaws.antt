@@ -15,8 +15,9 @@ use Rattle.dur_view.specs.declared.data.Held.{Held}
 use Rattle.dur_view.specs.declared.data.KeptWriter.{KeptWriter}
 use Rattle.dur_view.specs.Words.{is_same, writer_line, stands, topic_of, is_key_of}
 use Rattle.dur_view.specs.History.{History, Start, ◌▸◌, start, moment, next, held, joined, goes_on, Follows}
-use Rattle.dur_view.specs.IsSound.{IsHistory, SoundWriters, each_two, is_of_set, run_to, is_open_set}
+use Rattle.dur_view.specs.IsSound.{IsHistory, each_two, is_of_set, run_to, is_open_set}
 use Rattle.dur_view.specs.View.{view, line_after}
+use Rattle.dur_view.proofs.SoundRules.{SoundWriters}
 use Rattle.dur_view.proofs.SameEffects.{is_same-true}
 use Rattle.dur_view.proofs.Parts.{AllStand, all-stand}
 use Rattle.dur_view.proofs.FullViews.{sound-of}

@@ -1,5 +1,5 @@
 use Rattle.dur_view.proofs.PersistentViews.{persistent-view}
-use Rattle.dur_view.proofs.persistent_law.persistent_views_stand_for_histories.Goals as goal
+use Rattle.dur_view.proofs.law.persistent_views_stand_for_histories.Goals as goal
 
 pub returns : goal.returns
 returns c = persistent-view
