@@ -4,7 +4,6 @@ use Rattle.dur_view.specs.History.{History, moment}
 use Rattle.dur_view.specs.IsSound.{IsSound, IsHistory}
 use Rattle.dur_view.specs.View.{view}
 use Rattle.dur_view.proofs.FullViews.{sound-of}
-use Rattle.dur_view.proofs.SoundRules.{SoundWriters, SoundInstances, SoundKept, SoundNumbers}
 use Rattle.dur_view.proofs.SoundWriterLaws.{and-both, sound-writers}
 use Rattle.dur_view.proofs.SoundInstanceLaws.{sound-instances}
 use Rattle.dur_view.proofs.SoundKeptLaws.{sound-kept}
