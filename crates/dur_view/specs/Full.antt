@@ -1,4 +1,4 @@
--- A view with all that a plan declares.
+-- A view with all that a plan declares. The plan, in place of what DDS announces, is this project's own.
 use Rattle.std.specs.Prelude.{ℕ, not, List, [], ◌++◌, map, filter, option_and_then, unwrap_or, slice_get}
 use Rattle.std.specs.Option.{is_some}
 use Rattle.dur_qos.specs.declared.plan.Plan.{Plan}
