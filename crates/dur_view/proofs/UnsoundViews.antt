@@ -1,4 +1,5 @@
--- Each rule of a sound view is broken by a small view: a proof that this view is sound would prove what is false.
+-- Each rule of a sound view, but for its greatest counts, is broken by a small view: a proof that this view is sound would prove
+-- what is false.
 use Rattle.std.specs.Prelude.{◌≡◌, ℕ, ◌<◌, ◌*◌, ◌^◌, true, false, Some, None, List, [], ◌∷◌}
 use Rattle.dur_base.specs.declared.kinds.Shape.TheVariants as shape
 use Rattle.dur_base.specs.declared.sample.Act.TheVariants.{Write, Unregister}
@@ -125,7 +126,10 @@ changes-at-most-the-depth s = s.few
 registered-of-its-topic : Refused (record (listing (instance 1 aa (0 ∷ []) ∷ [])) { topics = topic ∷ topic ∷ [] })
 registered-of-its-topic s = s.registered_here
 
--- Held samples are good: a lifespan is below 2^31 - 1 seconds.
+-- Held and kept samples are good: a lifespan is below 2^31 - 1 seconds.
+kept-samples-good : IsSound (keeping (record one { sample = sample aa Write 4 (Some (2147483647 * 2 ^ 32)) NoSet } ∷ [])) → 2147483647 * 2 ^ 32 < 2147483647 * 2 ^ 32
+kept-samples-good s = s.samples_kept.0.lifespan
+
 held-samples-good : IsSound (holding (record (member 1 4) { sample = sample aa Write 4 (Some (2147483647 * 2 ^ 32)) (Of 1) } ∷ member 2 4 ∷ [])) → 2147483647 * 2 ^ 32 < 2147483647 * 2 ^ 32
 held-samples-good s = s.samples_held.0.0.lifespan
 
