@@ -3,8 +3,8 @@
 
     list_model.py PROGRAM [RUNS [SEED]]
 
-The model was written from docs/FORMATS.md, and for what makes a sample from docs/SPECIFICATION.md, apart
-from the program. It reads plans, captures, messages and parameter lists, and knows which of them `list`
+The model was written from docs/FORMATS.md, with docs/SPECIFICATION.md for what makes a sample and
+docs/DECISIONS.md for the words of a plan, apart from the program. It reads plans, captures, messages and parameter lists, and knows which of them `list`
 takes so far. About half of the inputs are taken whole, many of the others up to one change that was made on
 purpose. Compares status, output and what is said. Prints how many inputs ended in which way, or says where
 the first that differs was put, and then ends with 1.
