@@ -92,7 +92,7 @@ def module(folder):
         print(f"{name}: {len(found)} lists", file=sys.stderr)
         for little, takes, octets in found:
             rows[(little, octets)] = takes
-    print(f"{len(rows)} of them differ", file=sys.stderr)
+    print(f"{len(rows)} different ones are tried", file=sys.stderr)
     lines = []
     for (little, octets), takes in rows.items():
         text = "".join(f"\\x{octet:02x}" for octet in octets)

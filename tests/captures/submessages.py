@@ -64,7 +64,7 @@ def main():
             good += 1
             rows[datagram[20:]] = None
         print(f"{path.parent.name}: {good} messages, {other} other datagrams", file=sys.stderr)
-    print(f"{len(rows)} of them differ", file=sys.stderr)
+    print(f"{len(rows)} different ones are tried", file=sys.stderr)
     lines = []
     for octets in rows:
         text = "".join(f"\\x{octet:02x}" for octet in octets)
