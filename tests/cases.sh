@@ -5,7 +5,7 @@
 #     cases.sh [PROGRAM]
 set -eu
 cd "$(dirname "$0")/.."
-stage=R3
+stage=R3 # by which the runner knows what is built so far
 cases=${CASES:-../shared/cases}
 if [ ! -f "$cases/run_cases.py" ]; then echo "tests/cases.sh: skipped, no cases in $cases"; exit 0; fi
 if ! command -v python3 > /dev/null; then echo "tests/cases.sh: skipped, python3 is missing"; exit 0; fi
