@@ -9,6 +9,8 @@ DURABILITIES = ("volatile", "transient_local", "transient", "persistent")
 NAME = re.compile(r"[A-Za-z0-9_/]{1,64}\Z")
 # The settings of a plan's topic that DURABILITY_SERVICE has where nothing is announced (OMG DDS 1.4, 2.2.3).
 SETTINGS = "1 - - - - 0"
+# What a plan has at most.
+MOST_TOPICS, MOST_WRITERS, MOST_READERS = 1024, 4096, 1024
 
 
 class Endpoint(NamedTuple):
@@ -103,17 +105,36 @@ def announced(datagrams):
     return participants, list(writers.values()), list(readers.values())
 
 
+def allowed(found):
+    """Settings with the largest depth that their limit of samples of an instance allows, and the depth that was announced
+    where that is another."""
+    depth, samples, instances, each, *rest = found.split()
+    if depth == "all" or each == "-" or int(depth) <= int(each):
+        return found, None
+    return " ".join([each, samples, instances, each, *rest]), depth
+
+
 def topic_line(name, writers):
     """The plan's line of a topic with these writers, and what it could not say of them."""
     kinds = {writer.durability for writer in writers}
     kind = "persistent" if "persistent" in kinds else "transient"
     shape = "none" if int(writers[0].guid[-2:], 16) & 0x3F == 3 else "hash"
+    of_first, above = allowed(writers[0].settings)
     notes = []
     if kinds != {kind}:
         notes.append(f"the writers of `{name}` offer {' and '.join(sorted(kinds))}: the plan has them as {kind}")
     if len({writer.settings for writer in writers}) > 1:
         notes.append(f"the writers of `{name}` announce different settings: the plan has those of the first")
-    return f"topic {name} {kind} {shape} {writers[0].settings}", notes
+    if above is not None:
+        notes.append(f"the first writer of `{name}` announces a depth of {above} above its limit of samples of an instance: the plan has that limit as its depth")
+    return f"topic {name} {kind} {shape} {of_first}", notes
+
+
+def first_of(found, most, what):
+    """The first ones, as many as a plan can have, and a note of what is left out."""
+    if len(found) <= most:
+        return found, []
+    return found[:most], [f"of {len(found)} {what} the first {most} are in the plan, for it can have no more"]
 
 
 def plan_of(writers, readers):
@@ -124,7 +145,10 @@ def plan_of(writers, readers):
     for name in [name for name in topics if not NAME.match(name)]:
         notes.append(f"the topic `{name}` is left out, for a plan can have no such name: give it another one there")
         del topics[name]
-    for name, found in topics.items():
+    kept, more = first_of(list(topics.items()), MOST_TOPICS, "topics")
+    topics = dict(kept)
+    notes += more
+    for name, found in kept:
         line, more = topic_line(name, found)
         lines.append(line)
         notes += more
@@ -132,8 +156,11 @@ def plan_of(writers, readers):
         notes.append("where a writer sends no key hash inline, as Cyclone DDS by default, put `u32` or `text` for `hash`")
     for name in sorted({reader.topic for reader in readers} - {writer.topic for writer in writers}):
         notes.append(f"the readers of `{name}` are left out, for no writer of it is announced")
-    lines += [f"writer {one.guid} {one.topic} -" for one in writers if one.topic in topics]
-    lines += [f"reader {one.guid} {one.topic} {one.durability}" for one in readers if one.topic in topics]
+    kept_writers, more = first_of([one for one in writers if one.topic in topics], MOST_WRITERS, "writers")
+    kept_readers, others = first_of([one for one in readers if one.topic in topics], MOST_READERS, "readers")
+    notes += more + others
+    lines += [f"writer {one.guid} {one.topic} -" for one in kept_writers]
+    lines += [f"reader {one.guid} {one.topic} {one.durability}" for one in kept_readers]
     return "\n".join([*lines, "end", ""]), notes
 
 

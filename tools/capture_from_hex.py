@@ -7,9 +7,10 @@ Each line is a moment in ticks of 2^-32 s, a port and a datagram as hex, parted 
 be parted by further spaces. Empty lines and lines that begin with `#` are passed over. A line of
 another form is told with its number, and then nothing is written.
 
-Ends with 0, with 1 where a line has another form or nothing can be written, and with 2 where words stand
-behind the command.
+Ends with 0, with 1 where a line has another form or nothing can be read or written, and with 2 where words
+stand behind the command. Of a folder as standard input Python itself says so, and ends with 1.
 """
+import errno
 import os
 import struct
 import sys
@@ -56,20 +57,35 @@ def capture(lines):
     return b"".join(out)
 
 
+def opened(stream, name):
+    """A standard stream, which Python leaves out where it was closed before the start."""
+    if stream is None:
+        raise OSError(errno.EBADF, os.strerror(errno.EBADF), name)
+    return stream
+
+
+def say(line):
+    """Writes a line to standard error, if that is open."""
+    if sys.stderr is not None:
+        print(line, file=sys.stderr)
+
+
 def main():
     if len(sys.argv) > 1:
-        print("usage: capture_from_hex.py < LINES > CAPTURE", file=sys.stderr)
+        say("usage: capture_from_hex.py < LINES > CAPTURE")
         return 2
     try:
-        out = capture(sys.stdin)
-        sys.stdout.buffer.write(out)
-        sys.stdout.buffer.flush()
+        out = capture(opened(sys.stdin, "standard input"))
+        stdout = opened(sys.stdout, "standard output")
+        stdout.buffer.write(out)
+        stdout.buffer.flush()
     except (BadLine, UnicodeDecodeError) as fault:
-        print(f"capture_from_hex: {fault}", file=sys.stderr)
+        say(f"capture_from_hex: {fault}")
         return 1
     except OSError as fault:
-        print(f"capture_from_hex: {fault}", file=sys.stderr)
-        os.dup2(os.open(os.devnull, os.O_WRONLY), sys.stdout.fileno())
+        say(f"capture_from_hex: {fault}")
+        if sys.stdout is not None:
+            os.dup2(os.open(os.devnull, os.O_WRONLY), sys.stdout.fileno())
         return 1
     return 0
 

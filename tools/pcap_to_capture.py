@@ -17,6 +17,7 @@ another kind is told with the octet at which it is so, and then nothing is writt
 Ends with 0, with 1 where a file is broken or cannot be read or written, and with 2 for other words.
 """
 import argparse
+import errno
 import ipaddress
 import os
 import struct
@@ -322,6 +323,26 @@ def made(given):
     return convert(data, given.port, given.source)
 
 
+def write_out(path, octets):
+    """Writes to the file of that path, or to standard output where none is given; a fault names that one."""
+    try:
+        if path:
+            write_whole(path, octets)
+        elif sys.stdout is None:
+            raise OSError(errno.EBADF, os.strerror(errno.EBADF))
+        else:
+            sys.stdout.buffer.write(octets)
+            sys.stdout.buffer.flush()
+    except OSError as fault:
+        raise OSError(fault.errno, fault.strerror, path or "standard output") from None
+
+
+def say(line):
+    """Writes a line to standard error, if that is open."""
+    if sys.stderr is not None:
+        print(f"pcap_to_capture: {line}", file=sys.stderr)
+
+
 def main():
     given = arguments()
     path = given.plan
@@ -329,25 +350,22 @@ def main():
         plan = read_plan(given.plan) if given.plan else b""
         path = given.pcap
         octets, counts = made(given)
-        if given.output:
-            write_whole(given.output, plan + octets)
-        else:
-            sys.stdout.buffer.write(plan + octets)
-            sys.stdout.buffer.flush()
+        write_out(given.output, plan + octets)
     except BadFile as fault:
-        print(f"pcap_to_capture: {path}: {fault}", file=sys.stderr)
+        say(f"{path}: {fault}")
         return 1
     except OSError as fault:
-        print(f"pcap_to_capture: {fault}", file=sys.stderr)
+        say(fault)
         close_quietly()
         return 1
-    print("pcap_to_capture: " + ", ".join(f"{counts[what]} {what}" for what in sorted(counts)), file=sys.stderr)
+    say(", ".join(f"{counts[what]} {what}" for what in sorted(counts)))
     return 0
 
 
 def close_quietly():
     """Lets nothing more be written to a standard output that failed."""
-    os.dup2(os.open(os.devnull, os.O_WRONLY), sys.stdout.fileno())
+    if sys.stdout is not None:
+        os.dup2(os.open(os.devnull, os.O_WRONLY), sys.stdout.fileno())
 
 
 if __name__ == "__main__":

@@ -111,6 +111,25 @@ class Plans(unittest.TestCase):
         self.assertIn("persistent and volatile", notes[0])
         self.assertIn("different settings", notes[1])
 
+    def test_a_depth_above_the_limit_of_an_instance(self):
+        for settings, want, count in (("10 - - 5 - 0", "5 - - 5 - 0", 1), ("5 9 - 5 - 0", "5 9 - 5 - 0", 0), ("all - - 5 - 0", "all - - 5 - 0", 0)):
+            plan, notes = announced.plan_of([Endpoint("aa" * 15 + "03", "T", durability="transient", settings=settings)], [])
+            self.assertIn(f"topic T transient none {want}\n", plan)
+            self.assertEqual(len(notes), count)
+        self.assertIn("a depth of 10 ", announced.plan_of([Endpoint("aa" * 16, "T", settings="10 - - 5 - 0")], [])[1][1])
+
+    def test_more_than_a_plan_can_have(self):
+        endpoints = [Endpoint(f"{number:030x}03", f"T{number}", durability="transient") for number in range(1025)]
+        plan, notes = announced.plan_of(endpoints, endpoints[:1])
+        self.assertEqual(plan.count("topic "), 1024)
+        self.assertEqual(plan.count("writer "), 1024)
+        self.assertEqual(notes, ["of 1025 topics the first 1024 are in the plan, for it can have no more"])
+        endpoints = [Endpoint(f"{number:030x}03", "T", durability="transient") for number in range(4097)]
+        plan, notes = announced.plan_of(endpoints, endpoints[:1025])
+        self.assertEqual([plan.count(word) for word in ("topic ", "writer ", "reader ")], [1, 4096, 1024])
+        self.assertIn(f"writer {4095:030x}03 T -\nreader {0:030x}03 T transient\n", plan)
+        self.assertEqual([note.split(" are ")[0] for note in notes], ["of 4097 writers the first 4096", "of 1025 readers the first 1024"])
+
     def test_a_name_that_no_plan_can_have(self):
         for name in ("a b", "", "x" * 65, "caf\u00e9", "T\n", "rt::T"):
             plan, notes = announced.plan_of([Endpoint("aa" * 16, name)] * 2, [Endpoint("bb" * 16, name)])

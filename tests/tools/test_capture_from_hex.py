@@ -12,9 +12,10 @@ BUFFERED = {name: word for name, word in os.environ.items() if name != "PYTHONUN
 
 
 class FromHex(unittest.TestCase):
+    tool = os.path.join(TOOLS, "capture_from_hex.py")
+
     def run_tool(self, lines, *words, stdout=subprocess.PIPE):
-        tool = os.path.join(TOOLS, "capture_from_hex.py")
-        return subprocess.run([sys.executable, tool, *words], input=lines, stdout=stdout, stderr=subprocess.PIPE, env=BUFFERED, check=False)
+        return subprocess.run([sys.executable, self.tool, *words], input=lines, stdout=stdout, stderr=subprocess.PIPE, env=BUFFERED, check=False)
 
     def test_records(self):
         lines = ["# a comment\n", "5 7400 52 5450\n", "\n", "  6 0\n", f"{2**64 - 1} 65535 Ff"]
@@ -39,6 +40,13 @@ class FromHex(unittest.TestCase):
         bad = self.run_tool(b"5 7400 52\n5 7400 5\n")
         self.assertEqual((bad.returncode, bad.stdout, bad.stderr), (1, b"", b"capture_from_hex: line 2: the datagram is no hex\n"))
         self.assertEqual(self.run_tool(b"", "LINES").returncode, 2)
+
+    def test_streams_that_are_closed_and_a_folder(self):
+        for redirected, said in (("<&-", b"'standard input'\n"), (">&-", b"'standard output'\n"), (f"< {TOOLS}", b"is a directory"), ("<&- 2>&-", b"")):
+            done = subprocess.run(["sh", "-c", f'exec "$0" "$1" {redirected}', sys.executable, self.tool], input=b"", capture_output=True, check=False)
+            self.assertEqual((done.returncode, done.stdout), (1, b""))
+            self.assertIn(said, done.stderr)
+            self.assertNotIn(b"Traceback", done.stderr)
 
     @unittest.skipUnless(os.path.exists("/dev/full"), "no /dev/full")
     def test_an_output_that_cannot_be_written(self):

@@ -240,7 +240,8 @@ class Runs(unittest.TestCase):
         self.refuses(1, f"broken.pcap: octet {place}: ", "broken.pcap")
         self.refuses(1, f"broken.pcap: octet {place}: ", "--output", "out", "broken.pcap")
         self.refuses(1, "plan.txt: octet 0: ", "--output", "out", "plan.txt")
-        self.refuses(1, "No such file", "--output", "missing/out", "in.pcap")
+        self.refuses(1, "No such file or directory: 'missing/out'\n", "--output", "missing/out", "in.pcap")
+        self.refuses(1, "Is a directory: '.'\n", "--output", ".", "in.pcap")
         self.assertEqual(self.got("out"), b"old")
         self.assertEqual(sorted(os.listdir(self.folder)), ["broken.pcap", "in.pcap", "out", "plan.txt"])
 
@@ -282,6 +283,13 @@ class Runs(unittest.TestCase):
             done = self.run_tool("in.pcap", stdout=full, env=BUFFERED)
         self.assertEqual(done.returncode, 1)
         self.assertEqual(done.stderr.count(b"\n"), 1)
+
+    def test_streams_that_are_closed(self):
+        tool = os.path.join(TOOLS, "pcap_to_capture.py")
+        whole = record(1, b"abc") + record(2, b"d", 7411)
+        for redirected, want in ((">&-", (1, b"", b"pcap_to_capture: [Errno 9] Bad file descriptor: 'standard output'\n")), ("2>&-", (0, whole, b""))):
+            done = subprocess.run(["sh", "-c", f'exec "$0" "$1" in.pcap {redirected}', sys.executable, tool], cwd=self.folder, capture_output=True, check=False)
+            self.assertEqual((done.returncode, done.stdout, done.stderr), want)
 
     def test_a_summary(self):
         done = self.run_tool("--summary", "in.pcap")
