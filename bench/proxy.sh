@@ -1,7 +1,8 @@
 #!/usr/bin/env bash
 # Facts per second that a reader's proxy takes and handles, where they come in order, in reverse within the window, with
-# one number missing until a heartbeat shows it, and as heartbeats alone that skip more than a window each. Each line
-# has its ratio to the fastest order of data; it ends with the status 1 where one is ten times slower than that.
+# one number missing until a heartbeat shows it, as heartbeats alone that skip more than a window each, and as GAPs that
+# lie ahead of the next number, each of which reaches to the window's end. Each line has its ratio to the fastest order
+# of data; it ends with the status 1 where one is ten times slower than that.
 #
 # Writes a small program into a folder of its own under the system's temporary folder, with copies of the crates that
 # it stands on, has it proved and compiled there, runs it, and removes the folder.
@@ -28,7 +29,7 @@ cat > "$work/crates/proxy_bench/src/main.rt" <<E
 #![tactic(auto)]
 
 use bytes::Bytes;
-use dur_base::{Act, Form, Key, Number, Payload, Sample, SetMark, Ticks};
+use dur_base::{Act, Bits, Form, Key, Number, Payload, Sample, SetMark, Ticks};
 use rel_reader::{Proxy, Ready};
 use std::io;
 use std::time::{Clock, Instant};
@@ -41,6 +42,7 @@ enum Order {
     Backward,
     OneMissing,
     Heartbeats,
+    GapsAhead,
 }
 
 fn number(value: u64) -> Number {
@@ -119,6 +121,17 @@ fn run_heartbeats(proxy: &mut Proxy) -> u64 {
     skips
 }
 
+// All but the first by GAPs, the last one first, and then the first as data. They count where the next number is then
+// the one behind the window.
+fn run_gaps(proxy: &mut Proxy, first: u64) -> u64 {
+    let behind = first.saturating_add(256);
+    for i in 1..256u64 {
+        proxy.on_gap(number(behind.saturating_sub(i)), &Bits::empty(number(behind)));
+    }
+    let _ = take(proxy, first);
+    if proxy.next() == number(behind) { 256 } else { 0 }
+}
+
 fn run(proxy: &mut Proxy, order: &Order) -> u64 {
     let mut taken: u64 = 0;
     for window in 0..WINDOWS {
@@ -128,6 +141,7 @@ fn run(proxy: &mut Proxy, order: &Order) -> u64 {
             Order::Backward => run_data(proxy, first, true),
             Order::OneMissing => run_missing(proxy, first),
             Order::Heartbeats => run_heartbeats(proxy),
+            Order::GapsAhead => run_gaps(proxy, first),
         };
         taken = taken.saturating_add(more);
     }
@@ -149,7 +163,8 @@ fn main(rt: HostRuntime) -> io::Result<()> {
     one_line(&rt, "in-order", Order::Forward)?;
     one_line(&rt, "in-reverse", Order::Backward)?;
     one_line(&rt, "one-missing", Order::OneMissing)?;
-    one_line(&rt, "heartbeats", Order::Heartbeats)
+    one_line(&rt, "heartbeats", Order::Heartbeats)?;
+    one_line(&rt, "gaps-ahead", Order::GapsAhead)
 }
 E
 
@@ -159,12 +174,12 @@ if ! rt run > "$work/out.log" 2> "$work/err.log"; then
     exit 1
 fi
 awk -v wanted="$((windows * 256))" '
-    /^(in-order|in-reverse|one-missing|heartbeats) / {
+    /^(in-order|in-reverse|one-missing|heartbeats|gaps-ahead) / {
         if ($2 != wanted) { print $1 ": " $2 " were handled, and not " wanted; bad = 1 }
-        name[++lines] = $1; speed[lines] = $3; if ($1 != "heartbeats" && $3 > best) best = $3
+        name[++lines] = $1; speed[lines] = $3; if ($1 !~ /^(heartbeats|gaps-ahead)$/ && $3 > best) best = $3
     }
     END {
-        if (lines != 4) exit 1
+        if (lines != 5) exit 1
         for (i = 1; i <= lines; i++) {
             printf "%s: %d facts a second, ratio %.2f\n", name[i], speed[i], speed[i] / best
             if (speed[i] * 10 < best) bad = 1

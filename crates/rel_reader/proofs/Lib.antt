@@ -5,3 +5,4 @@ pub mod Moving
 pub mod Sets
 pub mod Missing
 pub mod OneSkip
+pub mod Between

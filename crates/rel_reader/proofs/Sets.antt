@@ -19,7 +19,7 @@ pub gap_said : (n start : ℕ) (set : NumberSet) (x : Known) (k : ℕ)
     → or_else (or_else x (said_to n start set.base k)) (said_named n set set.count k) ≡ or_else x (says_gap n start set k)
 gap_said n start set x k =
     or_assoc x (said_to n start set.base k) (said_named n set set.count k)
-    ∙ ap (or_else x) (or_cond (nat_le start n && nat_lt k set.base) (names set k && is_near n k))
+    ∙ ap (or_else x) (or_cond ((nat_le start n && nat_lt k set.base) || ((nat_le start k && nat_lt k set.base) && is_near n k)) (names set k && is_near n k))
 
 one_here : (le lt more b c near : Bool) → le ≡ true → lt ≡ false → more ≡ true → b ≡ c
     → or_else (cond ((le && (lt && b)) && near) Irrelevant Unknown) (cond ((true && c) && near) Irrelevant Unknown) ≡ cond ((le && (more && b)) && near) Irrelevant Unknown

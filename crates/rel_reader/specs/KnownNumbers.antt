@@ -15,9 +15,10 @@ is_near next k = nat_lt k (next + 256) && nat_lt k (2 ^ 63 - 1)
 abbrev pub says_data : ℕ → ℕ → Option Sample → ℕ → Known
 says_data next j read k = if (k == j) && is_near next k then read_as read else Unknown
 
--- a GAP makes irrelevant all below its set's base, where its start is not above next, and those numbers of its set that are in the window
+-- a GAP makes irrelevant all below its set's base, where its start is not above next, and of the numbers from its start to
+-- below that base, and of its set, those that are in the window
 abbrev pub says_gap : ℕ → ℕ → NumberSet → ℕ → Known
-says_gap next start set k = if (nat_le start next && nat_lt k set.base) || (names set k && is_near next k) then Irrelevant else Unknown
+says_gap next start set k = if ((nat_le start next && nat_lt k set.base) || ((nat_le start k && nat_lt k set.base) && is_near next k)) || (names set k && is_near next k) then Irrelevant else Unknown
 
 -- a HEARTBEAT makes irrelevant all below its first available number
 abbrev pub says_beat : ℕ → ℕ → Known

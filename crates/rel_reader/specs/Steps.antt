@@ -1,5 +1,5 @@
 -- The steps that a window takes, and what each of them is told.
-use Rattle.std.specs.Prelude.{ℕ, ◌+◌, ◌-◌, ◌%◌, ◌==◌, ◌&&◌, not, Bool, false, nat_lt, nat_le, if◌then◌else◌, max, slice_set}
+use Rattle.std.specs.Prelude.{ℕ, ◌+◌, ◌-◌, ◌%◌, ◌==◌, ◌&&◌, ◌||◌, not, Bool, false, nat_lt, nat_le, if◌then◌else◌, max, slice_set}
 use Rattle.dur_base.specs.NumberSets.{NumberSet, has_bit}
 use Rattle.rel_reader.specs.declared.known.Known.{Known}
 use Rattle.rel_reader.specs.declared.known.Known.TheVariants.{Unknown, Irrelevant}
@@ -17,7 +17,11 @@ said_below first k = if nat_lt k first then Irrelevant else Unknown
 
 -- what a GAP tells of the numbers below its base
 abbrev pub said_to : ℕ → ℕ → ℕ → ℕ → Known
-said_to n start base k = if nat_le start n && nat_lt k base then Irrelevant else Unknown
+said_to n start base k = if (nat_le start n && nat_lt k base) || ((nat_le start k && nat_lt k base) && is_near n k) then Irrelevant else Unknown
+
+-- that the numbers from one up to below another are irrelevant, those in the window
+abbrev pub said_between : ℕ → ℕ → ℕ → ℕ → Known
+said_between n from to k = if (nat_le from k && nat_lt k to) && is_near n k then Irrelevant else Unknown
 
 -- what the first i bits of a GAP's set tell
 abbrev pub said_named : ℕ → NumberSet → ℕ → ℕ → Known

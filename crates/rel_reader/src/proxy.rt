@@ -9,7 +9,7 @@ ghost use Rattle.rel_reader.specs.Skips.{IsSkip};
 ghost use Rattle.rel_reader.specs.MissingNumbers.{is_missing};
 ghost use Rattle.rel_reader.specs.declared.known.Known.TheVariants.{Unknown, Irrelevant, With};
 ghost use Rattle.rel_reader.specs.Windows.{known_in, Fits, Shows, HasSample};
-ghost use Rattle.rel_reader.specs.Steps.{with_floor, with_known, is_open, said, said_to, said_named, said_one, past_next};
+ghost use Rattle.rel_reader.specs.Steps.{with_floor, with_known, is_open, said, said_to, said_named, said_one, past_next, said_between};
 ghost use Rattle.dur_base.specs.NumberSets.{names};
 
 use crate::{Known, Ready, ring};
@@ -110,8 +110,8 @@ impl Proxy {
     }
 
     /// A GAP came: the numbers from its start to below the set's base, and those of the set, are irrelevant (DDSI-RTPS
-    /// 8.3.8.4). Those of the set count where they are in the window, and those below its base where its start is not above
-    /// the next number.
+    /// 8.3.8.4). They count where they are in the window, and those below its base at once where its start is not above the
+    /// next number.
     pub fn on_gap(&mut self, start: Number, set: &Bits)
         ensures { (h : Story) → Fits self.old h → Fits self.new (h ▸ Gap start set.now) }
     {
@@ -128,6 +128,19 @@ impl Proxy {
     {
         if start <= self.next {
             self.raise(base);
+        } else {
+            self.pass_between(start, base);
+        }
+    }
+
+    /// Those of the numbers from one up to below another that are in the window are irrelevant.
+    fn pass_between(&mut self, from: u64, to: u64)
+        requires { to < 2 ^ 63 }
+        ensures { (n : ℕ) (f : ℕ → Known) → Shows self.old n f → Shows self.new n (λ k. or_else (f k) (said_between n from to k)) }
+    {
+        let end = from.max(to.min(self.next + 256));
+        for k in from..end {
+            self.learn(k, Known::Irrelevant);
         }
     }
 
@@ -229,6 +242,8 @@ impl Proxy {
         ensures skip { (h : Story) → Fits self.now h → (from to : ℕ) → result ≡ Ready.Skip from to → (from ≡ next h) × IsSkip h (to + 1) }
         ensures nothing { (h : Story) → Fits self.now h → ((result ≡ Ready.Nothing) ↔ (known h (next h) ≡ Unknown)) }
         ensures has { (result ≡ Ready.Sample) ↔ HasSample self.now }
+        ensures some { (result ≡ Ready.Nothing) ↔ (is_unknown (known_in self.now self.now.next) ≡ true) }
+        ensures short { (from to : ℕ) → result ≡ Ready.Skip from to → self.now.next < 2 ^ 63 - 1 → to < 2 ^ 63 - 1 }
     {
         if self.is_unknown(self.next) {
             Ready::Nothing
@@ -277,6 +292,7 @@ impl Proxy {
         ensures sample { (h : Story) (s : Sample) → Fits self.old h → known h (next h) ≡ With s → (result ≡ Some s) × Fits self.new (h ▸ Handled (next h + 1)) }
         ensures skip { (h : Story) → Fits self.old h → known h (next h) ≡ Irrelevant → (result ≡ None) × ((to : ℕ) × (IsSkip h to × Fits self.new (h ▸ Handled to))) }
         ensures nothing { (h : Story) → Fits self.old h → known h (next h) ≡ Unknown → (result ≡ None) × Fits self.new h }
+        ensures rises { is_unknown (known_in self.old self.old.next) ≡ false → self.old.next < 2 ^ 63 - 1 → (self.old.next < self.new.next) × (self.new.next < 2 ^ 63) }
     {
         if self.next >= LAST || self.is_unknown(self.next) {
             return None;
@@ -293,7 +309,8 @@ impl Proxy {
     fn move_to(&mut self, to: u64)
         requires rises { self.old.next < to }
         requires small { to < 2 ^ 63 }
-        ensures { (n : ℕ) (f : ℕ → Known) → Shows self.old n f → Shows self.new to f }
+        ensures shows { (n : ℕ) (f : ℕ → Known) → Shows self.old n f → Shows self.new to f }
+        ensures next { self.new.next ≡ to }
     {
         ring::clear(self.places.as_mut_slice(), self.next, to, self.top);
         self.next = to;

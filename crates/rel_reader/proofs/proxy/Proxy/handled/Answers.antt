@@ -7,7 +7,7 @@ use Rattle.rel_reader.proofs.proxy.Proxy.handled.Goals as goal
 
 pub returns-then-is_irrelevant-clause-skip : goal.returns-then-is_irrelevant-clause-skip
 returns-then-is_irrelevant-clause-skip c = λ h s e.
-    (refl, (c.end_of_skip-end.result, (skip_of _ h _ s c.end_of_skip-end.ensures.range.0 c.end_of_skip-end.ensures.each c.end_of_skip-end.ensures.ends, c.move_to.ensures (next h) (known h) s)))
+    (refl, (c.end_of_skip-end.result, (skip_of _ h _ s c.end_of_skip-end.ensures.range.0 c.end_of_skip-end.ensures.each c.end_of_skip-end.ensures.ends, c.move_to.ensures.shows (next h) (known h) s)))
 
 pub returns-clause-sample : goal.returns-clause-sample
 returns-clause-sample c = λ h s fit e.
