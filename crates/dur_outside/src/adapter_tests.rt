@@ -6,7 +6,7 @@ use crate::{
 };
 use dur_base::{List, Ticks};
 use std::fs::{File, OpenOptions};
-use std::io::{ErrorKind, Read};
+use std::io::{ErrorKind, Read, Write};
 use std::net::UdpSocket;
 use std::time::Duration;
 use std::{env, fs, io, process};
@@ -84,6 +84,63 @@ fn streams_end_and_fail(rt: HostRuntime) {
     let mut sink = StdSink::new(room.as_mut_slice());
     assert!(rt; sink.write(b"ab") == Ok(2));
     assert!(rt; sink.write(b"cd") == Ok(1));
+    assert!(rt; sink.write(b"d") == Err(Failed));
+    assert!(rt; room == *b"abc");
+}
+
+// Of each two calls a signal interrupts the first.
+#[derive(Drop)]
+struct Interrupted<T> {
+    inner: T,
+    due: bool,
+}
+
+impl<T> Interrupted<T> {
+    fn comes(&mut self) -> bool {
+        self.due = !self.due;
+        !self.due
+    }
+}
+
+impl<R: Read> Read for Interrupted<R> {
+    fn read(&mut self, into: &mut [u8]) -> io::Result<usize> {
+        if self.comes() {
+            return Err(io::Error::from(ErrorKind::Interrupted));
+        }
+        self.inner.read(into)
+    }
+}
+
+impl<W: Write> Write for Interrupted<W> {
+    fn write(&mut self, piece: &[u8]) -> io::Result<usize> {
+        if self.comes() {
+            return Err(io::Error::from(ErrorKind::Interrupted));
+        }
+        self.inner.write(piece)
+    }
+
+    fn flush(&mut self) -> io::Result<()> {
+        Ok(())
+    }
+}
+
+#[test]
+fn what_a_signal_interrupts_is_done_again(rt: HostRuntime) {
+    let mut into = [0u8; 4];
+    let mut source = StdSource::new(Interrupted {
+        inner: b"abcdef".as_slice(),
+        due: true,
+    });
+    assert!(rt; source.read(&mut into) == Ok(4));
+    assert!(rt; source.read(&mut into) == Ok(2));
+    assert!(rt; source.read(&mut into) == Ok(0));
+    let mut room = [0u8; 3];
+    let mut sink = StdSink::new(Interrupted {
+        inner: room.as_mut_slice(),
+        due: true,
+    });
+    assert!(rt; sink.write(b"ab") == Ok(2));
+    assert!(rt; sink.write(b"c") == Ok(1));
     assert!(rt; sink.write(b"d") == Err(Failed));
     assert!(rt; room == *b"abc");
 }

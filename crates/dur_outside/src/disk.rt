@@ -308,12 +308,14 @@ impl Machine for MemDisk {
     ghost tells = { Unit {0} };
 
     ghost world = { disk_world [] };
+
+    ghost disk_faults = { λ d. d.calls.faults };
+
+    ghost sink_faults = { λ _. 0 };
 }
 
 // A call that fails changes no file here, though a disk may.
 impl Disk for MemDisk {
-    ghost disk_faults = { λ d. d.calls.faults };
-
     ghost sound = { λ _ d. sound (image [] d) d.past };
 
     #[tactic(auto, using(crate::proofs::Worlds::reads, crate::proofs::Worlds::octets_are, crate::proofs::Counting::has_cause))]

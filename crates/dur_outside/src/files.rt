@@ -74,11 +74,13 @@ impl Machine for FileDisk {
     ghost tells = { ⊥ };
 
     ghost world = { λ _. nothing };
+
+    ghost disk_faults = { λ d. d.faults };
+
+    ghost sink_faults = { λ _. 0 };
 }
 
 impl Disk for FileDisk {
-    ghost disk_faults = { λ d. d.faults };
-
     ghost sound = { λ none. absurd none };
 
     fn len(&mut self, file: FileId) -> Result<u64, Failed>
@@ -150,11 +152,13 @@ impl<W: Write> Machine for FileRig<W> {
     ghost tells = { ⊥ };
 
     ghost world = { λ _. nothing };
+
+    ghost disk_faults = { λ r. r.disk.faults };
+
+    ghost sink_faults = { λ r. r.sink };
 }
 
 impl<W: Write> Disk for FileRig<W> {
-    ghost disk_faults = { λ r. r.disk.faults };
-
     ghost sound = { λ none. absurd none };
 
     fn len(&mut self, file: FileId) -> Result<u64, Failed>
@@ -194,8 +198,6 @@ impl<W: Write> Disk for FileRig<W> {
 }
 
 impl<W: Write> Sink for FileRig<W> {
-    ghost sink_faults = { λ r. r.sink };
-
     fn write(&mut self, piece: &[u8]) -> Result<usize, Failed>
         ensures least { IfOk result (λ n. 0 < n) }
         ensures most { IfOk result (λ n. n ≤ length piece.now) }

@@ -3,6 +3,7 @@
 //! to the system, which tell nothing.
 #![tactic(auto)]
 
+mod again;
 mod calls;
 mod change;
 mod clock;

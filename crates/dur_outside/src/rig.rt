@@ -49,11 +49,13 @@ impl Machine for MemRig {
     ghost tells = { Unit {0} };
 
     ghost world = { λ r. disk_world r.sink.written r.disk };
+
+    ghost disk_faults = { λ r. r.disk.calls.faults };
+
+    ghost sink_faults = { λ r. r.sink.calls.faults };
 }
 
 impl Disk for MemRig {
-    ghost disk_faults = { λ r. r.disk.calls.faults };
-
     ghost sound = { λ _ r. sound (image r.sink.written r.disk) r.disk.past };
 
     #[tactic(auto, using(crate::proofs::Worlds::reads, crate::proofs::Worlds::octets_are, crate::proofs::Counting::has_cause))]
@@ -136,8 +138,6 @@ impl Disk for MemRig {
 }
 
 impl Sink for MemRig {
-    ghost sink_faults = { λ r. r.sink.calls.faults };
-
     /// It takes the whole piece, or fails.
     #[tactic(auto, using(crate::proofs::Worlds::sends, crate::proofs::Counting::has_cause))]
     fn write(&mut self, piece: &[u8]) -> Result<usize, Failed>

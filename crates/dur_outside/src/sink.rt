@@ -88,11 +88,13 @@ impl Machine for MemSink {
     ghost tells = { Unit {0} };
 
     ghost world = { λ s. world_of (record { zero = []; one = []; written = s.written }) s.past };
+
+    ghost disk_faults = { λ _. 0 };
+
+    ghost sink_faults = { λ s. s.calls.faults };
 }
 
 impl Sink for MemSink {
-    ghost sink_faults = { λ s. s.calls.faults };
-
     /// It takes the whole piece, or fails.
     fn write(&mut self, piece: &[u8]) -> Result<usize, Failed>
         requires { 0 < length piece.now }
@@ -130,11 +132,13 @@ impl Machine for NoSink {
     ghost tells = { ⊥ };
 
     ghost world = { λ _. nothing };
+
+    ghost disk_faults = { λ _. 0 };
+
+    ghost sink_faults = { λ _. 0 };
 }
 
 impl Sink for NoSink {
-    ghost sink_faults = { λ _. 0 };
-
     /// It takes the whole piece.
     fn write(&mut self, piece: &[u8]) -> Result<usize, Failed>
         ensures whole { IfOk result (λ n. n ≡ length piece.now) }

@@ -3,6 +3,7 @@
 ghost use Rattle.std.specs.Prelude.{◌≡◌, ◌≤◌, [], length, IfOk, IfSome, is_err};
 ghost use Rattle.dur_outside.specs.Causes.{HasCause, Rose, faults_after, one_more};
 
+use crate::again::send_again;
 use crate::{Failed, LONGEST_DATAGRAM, Link};
 use std::io;
 use std::io::ErrorKind;
@@ -75,12 +76,13 @@ impl Link for UdpLink {
         }
     }
 
-    /// It fails where the system does, and where it sends less than the whole datagram.
+    /// It fails where the system does, and where it sends less than the whole datagram. A call that a signal
+    /// interrupts is made again.
     fn send(&mut self, bytes: &[u8]) -> Result<(), Failed>
         ensures cause { HasCause self.old self.new result }
         ensures count { self.new ≡ faults_after (is_err result) self.old }
     {
-        match self.socket.send_to(bytes, self.peer) {
+        match send_again(&self.socket, bytes, self.peer) {
             Ok(count) if count == bytes.len() => Ok(()),
             _ => Err(self.fail()),
         }

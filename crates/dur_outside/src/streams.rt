@@ -6,6 +6,7 @@ ghost use Rattle.std.specs.Io.KnownBytes.{ReadConsumes};
 ghost use Rattle.dur_outside.specs.Causes.{HasCause, Rose, faults_after, one_more};
 ghost use Rattle.dur_outside.specs.World.{nothing};
 
+use crate::again::{read_again, write_again};
 use crate::{Disk, Failed, FileId, Machine, Rig, Sink, Source};
 use std::io::{Read, Write};
 use std::marker::Model;
@@ -39,14 +40,14 @@ impl<R: Read> Source for StdSource<R> {
 
     ghost faults = { λ s. s.faults };
 
-    /// It fails exactly where the reader does.
+    /// It fails exactly where the reader does, but a read that a signal interrupts is made again.
     fn read(&mut self, into: &mut [u8]) -> Result<usize, Failed>
         ensures bound { ReadsAtMost result into.new }
         ensures bytes { ReadConsumes self.old.left self.new.left result into.new }
         ensures cause { HasCause self.old.faults self.new.faults result }
         ensures count { self.new.faults ≡ faults_after (is_err result) self.old.faults }
     {
-        match self.inner.read(into) {
+        match read_again(&mut self.inner, into) {
             Ok(count) => Ok(count),
             Err(_) => {
                 self.faults = self.faults.saturating_add(1);
@@ -84,19 +85,22 @@ impl<W: Write> Machine for StdSink<W> {
     ghost tells = { ⊥ };
 
     ghost world = { λ _. nothing };
+
+    ghost disk_faults = { λ _. 0 };
+
+    ghost sink_faults = { λ s. s };
 }
 
 impl<W: Write> Sink for StdSink<W> {
-    ghost sink_faults = { λ s. s };
-
-    /// It fails exactly where the writer does or takes nothing.
+    /// It fails exactly where the writer does or takes nothing, but a write that a signal interrupts is made
+    /// again.
     fn write(&mut self, piece: &[u8]) -> Result<usize, Failed>
         ensures least { IfOk result (λ n. 0 < n) }
         ensures most { IfOk result (λ n. n ≤ length piece.now) }
         ensures cause { HasCause self.old self.new result }
         ensures count { self.new ≡ faults_after (is_err result) self.old }
     {
-        match self.inner.write(piece) {
+        match write_again(&mut self.inner, piece) {
             Ok(count) if count > 0 => Ok(count),
             _ => {
                 self.faults = self.faults.saturating_add(1);
@@ -144,11 +148,13 @@ impl<W: Write> Machine for OutputRig<W> {
     ghost tells = { ⊥ };
 
     ghost world = { λ _. nothing };
+
+    ghost disk_faults = { λ r. r.disk };
+
+    ghost sink_faults = { λ r. r.sink };
 }
 
 impl<W: Write> Disk for OutputRig<W> {
-    ghost disk_faults = { λ r. r.disk };
-
     ghost sound = { λ none. absurd none };
 
     fn len(&mut self, _file: FileId) -> Result<u64, Failed>
@@ -194,8 +200,6 @@ impl<W: Write> Disk for OutputRig<W> {
 }
 
 impl<W: Write> Sink for OutputRig<W> {
-    ghost sink_faults = { λ r. r.sink };
-
     fn write(&mut self, piece: &[u8]) -> Result<usize, Failed>
         ensures least { IfOk result (λ n. 0 < n) }
         ensures most { IfOk result (λ n. n ≤ length piece.now) }

@@ -31,50 +31,53 @@ pub trait Source {
         ensures cause { HasCause (faults self.old) (faults self.new) result };
 }
 
-/// What stands outside at a moment, under one clock: two files, what was written out, and what a crash
-/// may leave of them. It has no calls of its own.
+/// What stands outside at a moment, under one clock: two files, what was written out, what a crash may
+/// leave of them, and how often each part failed. It has no calls of its own. A call of one part leaves the
+/// other part's count as it is.
 pub trait Machine {
     /// Whether the content is told.
     ghost tells: { Type 0 };
 
     /// The world at this moment. Where there are no files they are empty.
     ghost world: { Self → World };
+
+    /// How many calls on the files failed: 0 where there are none.
+    ghost disk_faults: { Self → ℕ };
+
+    /// How many writes failed: 0 where nothing is written out.
+    ghost sink_faults: { Self → ℕ };
 }
 
 /// Where octets go.
 pub trait Sink: Machine {
-    /// How many calls failed.
-    ghost sink_faults: { Self → ℕ };
-
     /// Appends a front of `piece`, which is not empty, and answers how many octets went out, at least
-    /// one: a sink that takes nothing counts a fault. `Failed` comes only where the count of faults rose
-    /// in this call, and then what was written out is as it was. What a crash may leave of the files
-    /// stays.
+    /// one: a sink that takes nothing counts a fault. `Failed` comes only where the sink's count of faults
+    /// rose in this call, and then what was written out is as it was. What a crash may leave of the files
+    /// stays, and so does their count of faults.
     fn write(&mut self, piece: &[u8]) -> Result<usize, Failed>
         requires { 0 < length piece.now }
         ensures least { IfOk result (λ n. 0 < n) }
         ensures most { IfOk result (λ n. n ≤ length piece.now) }
         ensures sends { Self.tells → Sends piece.now result (Self.world self.old) (Self.world self.new) }
-        ensures cause { HasCause (sink_faults self.old) (sink_faults self.new) result };
+        ensures cause { HasCause (Self.sink_faults self.old) (Self.sink_faults self.new) result }
+        ensures keeps { Self.disk_faults self.new ≡ Self.disk_faults self.old };
 }
 
 /// Two files, which nobody else writes. Places are counted in octets from a file's start.
 ///
-/// Each call answers `Failed` only where the count of faults rose in that call. A call on one file leaves the
-/// other, and what was written out, as they are.
+/// Each call answers `Failed` only where the files' count of faults rose in that call. A call on one file
+/// leaves the other, what was written out, and the sink's count as they are.
 ///
 /// Between two syncs of a file each written range, and everything past the old end, may hold any octets
 /// after a crash, and the length may be any between the old and the new one. Other octets stay, and so
 /// does what was written out.
 pub trait Disk: Machine {
-    /// How many calls failed.
-    ghost disk_faults: { Self → ℕ };
-
     /// Answers the length of that file.
     fn len(&mut self, file: FileId) -> Result<u64, Failed>
         ensures length { Self.tells → IfOk result (λ n. n ≡ length (content file (Self.world self.old).now)) }
         ensures reads { Self.tells → Reads (Self.world self.old) (Self.world self.new) }
-        ensures cause { HasCause (disk_faults self.old) (disk_faults self.new) result };
+        ensures cause { HasCause (Self.disk_faults self.old) (Self.disk_faults self.new) result }
+        ensures keeps { Self.sink_faults self.new ≡ Self.sink_faults self.old };
 
     /// Fills `into` with the octets from that place on, all of which stand within the file. After `Failed`
     /// `into` may hold anything.
@@ -83,26 +86,30 @@ pub trait Disk: Machine {
         ensures bytes { Self.tells → OnOk result
             (into.new ≡ take (length into.old) (drop at (content file (Self.world self.old).now))) }
         ensures reads { Self.tells → Reads (Self.world self.old) (Self.world self.new) }
-        ensures cause { HasCause (disk_faults self.old) (disk_faults self.new) result };
+        ensures cause { HasCause (Self.disk_faults self.old) (Self.disk_faults self.new) result }
+        ensures keeps { Self.sink_faults self.new ≡ Self.sink_faults self.old };
 
     /// Writes these octets at a place within the file or at its end, over what stands there. After
     /// `Failed` any part of the range may have been written.
     fn write_at(&mut self, file: FileId, at: u64, bytes: &[u8]) -> Result<(), Failed>
         requires { Self.tells → at ≤ length (content file (Self.world self.old).now) }
         ensures writes { Self.tells → Writes file at bytes.now result (Self.world self.old) (Self.world self.new) }
-        ensures cause { HasCause (disk_faults self.old) (disk_faults self.new) result };
+        ensures cause { HasCause (Self.disk_faults self.old) (Self.disk_faults self.new) result }
+        ensures keeps { Self.sink_faults self.new ≡ Self.sink_faults self.old };
 
     /// Cuts the file off at a place within it or at its end. After `Failed` it may end anywhere from
     /// there on.
     fn cut(&mut self, file: FileId, end: u64) -> Result<(), Failed>
         requires { Self.tells → end ≤ length (content file (Self.world self.old).now) }
         ensures cuts { Self.tells → Cuts file end result (Self.world self.old) (Self.world self.new) }
-        ensures cause { HasCause (disk_faults self.old) (disk_faults self.new) result };
+        ensures cause { HasCause (Self.disk_faults self.old) (Self.disk_faults self.new) result }
+        ensures keeps { Self.sink_faults self.new ≡ Self.sink_faults self.old };
 
     /// Makes what was changed in that file outlast a crash. After `Failed` it may not.
     fn sync(&mut self, file: FileId) -> Result<(), Failed>
         ensures syncs { Self.tells → Syncs file result (Self.world self.old) (Self.world self.new) }
-        ensures cause { HasCause (disk_faults self.old) (disk_faults self.new) result };
+        ensures cause { HasCause (Self.disk_faults self.old) (Self.disk_faults self.new) result }
+        ensures keeps { Self.sink_faults self.new ≡ Self.sink_faults self.old };
 
     /// A disk as it reads is one of the images that a crash may leave.
     ghost sound: { Self.tells → (d : Self) → IsSound (Self.world d) };

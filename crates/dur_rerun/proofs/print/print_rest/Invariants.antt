@@ -12,7 +12,7 @@ invariant-records g l = record {
   shown : (own : List ℕ) (before : ℕ) (octets : List ℕ) (first : Image) → Shown own before octets g.K.Machine.tells first (g.K.Machine.world l.fn.out).now l.fn.printer
       → Shown own before (octets ++ seen) g.K.Machine.tells first (g.K.Machine.world l.out).now l.printer;
   later_read : g.S.Source.faults l.fn.input ≤ g.S.Source.faults l.input;
-  later_write : g.K.Sink.sink_faults l.fn.out ≤ g.K.Sink.sink_faults l.out;
+  later_write : g.K.Machine.sink_faults l.fn.out ≤ g.K.Machine.sink_faults l.out;
 }
 
 abbrev pub decreases-records : goal.decreases-records
