@@ -39,7 +39,7 @@ fn look(bytes: &[u8]) -> Option<Seen> {
 
 #[test]
 fn each_id_in_both_orders(rt: HostRuntime) {
-    let table: [(&[u8], Seen); 18] = [
+    let table: [(&[u8], Seen); 20] = [
         (b"\x01\x01\0\0\x07", Seen(0x01, 0, 0, 4)),
         (b"\x01\0\0\x01\x07", Seen(0x01, 0, 0, 5)),
         (
@@ -75,6 +75,7 @@ fn each_id_in_both_orders(rt: HostRuntime) {
             Seen(0x09, 0x5_0000_0001, 0, 12),
         ),
         (b"\x09\x03\0\0\x07", Seen(0x09, 0, 1, 4)),
+        (b"\x09\x02\0\0\x07", Seen(0x09, 0, 1, 4)),
         (
             b"\x0c\x01\x14\0\0\0\0\0\x02\x05\0\0ppppppppppqr",
             Seen(0x0c, 0x70, 0x72, 24),
@@ -94,6 +95,7 @@ fn each_id_in_both_orders(rt: HostRuntime) {
             Seen(0x15, 1, 4, 30),
         ),
         (b"\x80\x01\0\0\x07", Seen(0x80, 0, 0, 5)),
+        (b"\x80\0\0\x01\x07\x07", Seen(0x80, 0, 0, 5)),
     ];
     for (bytes, want) in table {
         assert!(rt; look(bytes) == Some(want));
