@@ -1,10 +1,13 @@
 -- What a written message tells.
-use Rattle.std.proofs.Common.{◌≡◌, ℕ, ◌-◌, ◌<◌, ◌≤◌, ◌^◌, ◌||◌, Bool, true, false, List, [], ◌∷◌, ◌++◌, length, take, drop, None, refl, sym, ap, subst, ◌∙◌, arith, inl, inr}
+use Rattle.std.proofs.Common.{◌≡◌, ℕ, ◌-◌, ◌<◌, ◌≤◌, ◌^◌, Bool, true, false, List, [], ◌∷◌, ◌++◌, length, take, drop, Some, None, refl, sym, ap, subst, ◌∙◌, arith, inl}
 use Rattle.std.specs.List.{flat_map, AllByRecursion}
-use Rattle.std.specs.Str.{bytes_eq}
-use Rattle.std.proofs.lemmas.Bool.{eq-eqb, le-leb, or_left, or_right}
+use Rattle.std.specs.Option.{option_to_list}
+use Rattle.std.specs.Prelude.{Option, if◌then◌else◌}
+use Rattle.std.proofs.lemmas.Bool.{le-leb}
 use Rattle.std.proofs.lemmas.List.{take_at, drop_at, length-append, take-append-drop}
-use Rattle.dur_base.specs.Goodness.{IsGood, IsPayload}
+use Rattle.dur_base.specs.Goodness.{IsGood, IsMark, IsPayload}
+use Rattle.dur_base.specs.declared.sample.SetMark.{SetMark}
+use Rattle.dur_base.specs.declared.sample.SetMark.TheVariants.{NoSet, End, Of}
 use Rattle.dur_base.specs.NumberSets.{NumberSet}
 use Rattle.dur_base.specs.declared.fact.Fact.{Fact}
 use Rattle.dur_base.specs.declared.fact.Fact.TheVariants as facts
@@ -18,12 +21,11 @@ use Rattle.rtps_submsg.specs.declared.sub.DataSub.{DataSub}
 use Rattle.rtps_submsg.specs.declared.sub.Sub.{Sub}
 use Rattle.rtps_submsg.specs.declared.sub.Sub.TheVariants.{Data}
 use Rattle.rtps_submsg.specs.Writing.{sub_text, IsInRange, IsPayloadOf}
-use Rattle.rtps_message.specs.declared.context.Context.{Context}
 use Rattle.rtps_message.specs.declared.heard.Heard.{Heard}
 use Rattle.rtps_message.specs.declared.heard.End.TheVariants.{Whole}
-use Rattle.rtps_message.specs.Facts.{everybody, told_of}
+use Rattle.rtps_message.specs.Facts.{told_of}
 use Rattle.rtps_message.specs.Messages.{Splits, Hears}
-use Rattle.rtps_message.specs.Written.{opening, message, acknack_subs, heartbeat_subs, sample_subs, marker_subs, status_of, IsSampleData, IsMarkerData, IsWritten, ReadsBack, IsAddressed, TellsOne, sample_raw, marker_raw}
+use Rattle.rtps_message.specs.Written.{opening, message, acknack_subs, heartbeat_subs, sample_subs, marker_subs, status_of, sent_set, IsSampleData, IsMarkerData, begin_at, IsWritten, ReadsBack, Tells, is_addressed, TellsOne, sample_raw, marker_raw}
 
 -- ---- the submessages of a message
 
@@ -37,9 +39,6 @@ splits_back (s ∷ ss) back range = (
   back.0 range.0 (flat_map text_of ss),
   subst (λ (t : List ℕ). Splits t ss []) (sym (drop_at (sub_text true s) (flat_map text_of ss) (length (sub_text true s)) refl)) (splits_back ss back.1 range.1),
 )
-
-abbrev begin_at : List ℕ → Context
-begin_at prefix = record { source = prefix; destination = everybody; time = None }
 
 hears_back : (own from : List ℕ) (subs : List Sub) → length from ≡ 12 → AllByRecursion ReadsBack subs → AllByRecursion IsInRange subs → Hears own (message from subs) (record { facts = told_of own (begin_at from) subs; end = Whole })
 unfolding message
@@ -60,43 +59,57 @@ hears_back own from subs len back range =
       },
     )
 
-told_one : (old new prefix to : List ℕ) (subs : List Sub) (n : ℕ) (fact : Fact) → length prefix ≡ 12 → IsWritten old new prefix subs n → AllByRecursion ReadsBack subs → AllByRecursion IsInRange subs → ((own : List ℕ) → IsAddressed own to → told_of own (begin_at prefix) subs ≡ fact ∷ [])
-    → TellsOne to (take n new) fact
-told_one old new prefix to subs n fact len w back range one = λ own a.
+-- the fact alone, or nothing
+abbrev only : Bool → Fact → List Fact
+only b fact = if b then fact ∷ [] else []
+
+-- what was written tells what its submessages tell
+pub tells_back : (old new prefix : List ℕ) (subs : List Sub) (n : ℕ) → length prefix ≡ 12 → IsWritten old new prefix subs n → AllByRecursion ReadsBack subs → AllByRecursion IsInRange subs → Tells prefix subs (take n new)
+tells_back old new prefix subs n len w back range = λ own.
     let text : take n new ≡ message prefix subs = ap (take n) w.text ∙ take_at (message prefix subs) (drop n old) n (sym w.len) in
+    let heard : Heard = record { facts = told_of own (begin_at prefix) subs; end = Whole } in
+    subst (λ (t : List ℕ). Hears own t heard) (sym text) (hears_back own prefix subs len back range)
+
+told_one : (prefix to bytes : List ℕ) (subs : List Sub) (fact : Fact) → Tells prefix subs bytes → ((own : List ℕ) → told_of own (begin_at prefix) subs ≡ only (is_addressed own to) fact)
+    → TellsOne to bytes fact
+told_one prefix to bytes subs fact tells one = λ own.
     let heard : List Fact → Heard = λ fs. record { facts = fs; end = Whole } in
-    subst (λ (t : List ℕ). Hears own t (heard (fact ∷ []))) (sym text) (subst (λ (fs : List Fact). Hears own (message prefix subs) (heard fs)) (one own a) (hears_back own prefix subs len back range))
+    subst (λ (fs : List Fact). Hears own bytes (heard fs)) (one own) (tells own)
 
 -- ---- whom a message is for
 
-same_self : (xs : List ℕ) → bytes_eq xs xs ≡ true
-same_self [] = refl
-same_self (x ∷ xs) = rw (eq-eqb x x refl, same_self xs) refl
+when_for : (b : Bool) (fact : Fact) → option_to_list (if b then Some fact else None) ++ [] ≡ only b fact
+when_for true fact = refl
+when_for false fact = refl
 
-for_addressee : (own to : List ℕ) → IsAddressed own to → (bytes_eq (take 12 to) everybody || bytes_eq (take 12 to) own) ≡ true
-for_addressee own to (inl e) = or_right (bytes_eq (take 12 to) everybody) (bytes_eq (take 12 to) own) (ap (bytes_eq (take 12 to)) (sym e) ∙ same_self (take 12 to))
-for_addressee own to (inr e) = or_left (bytes_eq (take 12 to) everybody) (bytes_eq (take 12 to) own) (ap (λ (t : List ℕ). bytes_eq t everybody) e)
+abbrev no_fact : Option Fact
+no_fact = None
+
+-- with a submessage before it that tells nothing
+then_for : (b : Bool) (fact : Fact) → option_to_list (if b then no_fact else no_fact) ++ (option_to_list (if b then Some fact else None) ++ []) ≡ only b fact
+then_for true fact = refl
+then_for false fact = refl
 
 -- ---- the four messages
 
-heartbeat_told : (own from to writer : List ℕ) (last count : ℕ) → IsAddressed own to → told_of own (begin_at from) (heartbeat_subs to writer last count) ≡ facts.Beat (from ++ writer) (drop 12 to) 1 last false ∷ []
-heartbeat_told own from to writer last count a = rw (for_addressee own to a) refl
+heartbeat_told : (own from to writer : List ℕ) (last count : ℕ) → told_of own (begin_at from) (heartbeat_subs to writer last count) ≡ only (is_addressed own to) (facts.Beat (from ++ writer) (drop 12 to) 1 last false)
+heartbeat_told own from to writer last count = when_for (is_addressed own to) (facts.Beat (from ++ writer) (drop 12 to) 1 last false)
 
-pub heartbeat_back : (old new from to writer : List ℕ) (last count n : ℕ) → length from ≡ 12 → last < 2 ^ 63 → IsWritten old new from (heartbeat_subs to writer last count) n → AllByRecursion ReadsBack (heartbeat_subs to writer last count)
-    → TellsOne to (take n new) (facts.Beat (from ++ writer) (drop 12 to) 1 last false)
-heartbeat_back old new from to writer last count n len small w back =
-    told_one old new from to (heartbeat_subs to writer last count) n _ len w back (tt, ((small, omega arith), tt)) (λ own a. heartbeat_told own from to writer last count a)
+pub heartbeat_back : (from to writer bytes : List ℕ) (last count : ℕ) → last < 2 ^ 63 → (AllByRecursion IsInRange (heartbeat_subs to writer last count) → Tells from (heartbeat_subs to writer last count) bytes)
+    → TellsOne to bytes (facts.Beat (from ++ writer) (drop 12 to) 1 last false)
+heartbeat_back from to writer bytes last count small back =
+    told_one from to bytes (heartbeat_subs to writer last count) _ (back (tt, ((small, omega arith), tt))) (λ own. heartbeat_told own from to writer last count)
 
-acknack_told : (own from to : List ℕ) (set : NumberSet) (is_final : Bool) (count : ℕ) → IsAddressed own to → told_of own (begin_at (take 12 from)) (acknack_subs from to set is_final count) ≡ facts.Nack from (drop 12 to) set is_final ∷ []
-acknack_told own from to set is_final count a = rw (for_addressee own to a) (ap (λ (g : List ℕ). facts.Nack g (drop 12 to) set is_final ∷ []) (take-append-drop 12 from))
+acknack_told : (own from to : List ℕ) (set : NumberSet) (is_final : Bool) (count : ℕ) → told_of own (begin_at (take 12 from)) (acknack_subs from to set is_final count) ≡ only (is_addressed own to) (facts.Nack from (drop 12 to) set is_final)
+acknack_told own from to set is_final count = when_for (is_addressed own to) (facts.Nack (take 12 from ++ drop 12 from) (drop 12 to) set is_final) ∙ ap (λ (g : List ℕ). only (is_addressed own to) (facts.Nack g (drop 12 to) set is_final)) (take-append-drop 12 from)
 
-pub acknack_back : (old new from to : List ℕ) (set : NumberSet) (is_final : Bool) (count n : ℕ) → length (take 12 from) ≡ 12 → IsWritten old new (take 12 from) (acknack_subs from to set is_final count) n → AllByRecursion ReadsBack (acknack_subs from to set is_final count)
-    → TellsOne to (take n new) (facts.Nack from (drop 12 to) set is_final)
-acknack_back old new from to set is_final count n len w back =
-    told_one old new (take 12 from) to (acknack_subs from to set is_final count) n _ len w back (tt, (tt, tt)) (λ own a. acknack_told own from to set is_final count a)
+pub acknack_back : (from to bytes : List ℕ) (set : NumberSet) (is_final : Bool) (count : ℕ) → (AllByRecursion IsInRange (acknack_subs from to set is_final count) → Tells (take 12 from) (acknack_subs from to set is_final count) bytes)
+    → TellsOne to bytes (facts.Nack from (drop 12 to) set is_final)
+acknack_back from to bytes set is_final count back =
+    told_one (take 12 from) to bytes (acknack_subs from to set is_final count) _ (back (tt, (tt, tt))) (λ own. acknack_told own from to set is_final count)
 
-marker_told : (own from to writer : List ℕ) (number : ℕ) (d : DataSub) → IsMarkerData to writer number d → IsAddressed own to → told_of own (begin_at from) (marker_subs to d) ≡ facts.Data (from ++ writer) (drop 12 to) number marker_raw ∷ []
-marker_told own from to writer number d x a = rw (for_addressee own to a, x.reader, x.writer_is, x.number_is, x.inline, x.form, x.payload) refl
+marker_told : (own from to writer : List ℕ) (number : ℕ) (d : DataSub) → IsMarkerData to writer number d → told_of own (begin_at from) (marker_subs to d) ≡ only (is_addressed own to) (facts.Data (from ++ writer) (drop 12 to) number marker_raw)
+marker_told own from to writer number d x = rw (x.reader, x.writer_is, x.number_is, x.inline, x.form, x.payload) (when_for (is_addressed own to) (facts.Data (from ++ writer) (drop 12 to) number marker_raw))
 
 marker_range : (to writer : List ℕ) (number : ℕ) (d : DataSub) → IsMarkerData to writer number d → number ≤ 2 ^ 63 - 2 → IsInRange (Data d)
 marker_range to writer number d x small = record {
@@ -105,13 +118,13 @@ marker_range to writer number d x small = record {
   payload = subst (λ (f : Form). IsPayloadOf f d.payload.now) (sym x.form) x.payload;
 }
 
-pub marker_back : (old new from to writer : List ℕ) (number n : ℕ) (d : DataSub) → length from ≡ 12 → number ≤ 2 ^ 63 - 2 → IsMarkerData to writer number d → IsWritten old new from (marker_subs to d) n → AllByRecursion ReadsBack (marker_subs to d)
-    → TellsOne to (take n new) (facts.Data (from ++ writer) (drop 12 to) number marker_raw)
-marker_back old new from to writer number n d len small x w back = told_one old new from to (marker_subs to d) n _ len w back (tt, (marker_range to writer number d x small, tt)) (λ own a. marker_told own from to writer number d x a)
+pub marker_back : (from to writer bytes : List ℕ) (number : ℕ) (d : DataSub) → number ≤ 2 ^ 63 - 2 → IsMarkerData to writer number d → (AllByRecursion IsInRange (marker_subs to d) → Tells from (marker_subs to d) bytes)
+    → TellsOne to bytes (facts.Data (from ++ writer) (drop 12 to) number marker_raw)
+marker_back from to writer bytes number d small x back = told_one from to bytes (marker_subs to d) _ (back (tt, (marker_range to writer number d x small, tt))) (λ own. marker_told own from to writer number d x)
 
-sample_told : (own from to writer : List ℕ) (number : ℕ) (s : Sample) (keyed : Bool) (d : DataSub) → IsSampleData to writer number s keyed d → length s.payload ≤ 65344 → IsAddressed own to
-    → told_of own (begin_at from) (sample_subs to s.stamp d) ≡ facts.Data (from ++ writer) (drop 12 to) number (sample_raw s keyed) ∷ []
-sample_told own from to writer number s keyed d x small a = rw (for_addressee own to a, x.reader, x.writer_is, x.number_is, x.inline, x.form, x.payload, le-leb (length s.payload) 65344 small) refl
+sample_told : (own from to writer : List ℕ) (number : ℕ) (s : Sample) (keyed : Bool) (d : DataSub) → IsSampleData to writer number s keyed d → length s.payload ≤ 65344
+    → told_of own (begin_at from) (sample_subs to s.stamp d) ≡ only (is_addressed own to) (facts.Data (from ++ writer) (drop 12 to) number (sample_raw s keyed))
+sample_told own from to writer number s keyed d x small = rw (x.reader, x.writer_is, x.number_is, x.inline, x.form, x.payload, le-leb (length s.payload) 65344 small) (then_for (is_addressed own to) (facts.Data (from ++ writer) (drop 12 to) number (sample_raw s keyed)))
 
 payload_len : (form : Form) (payload : List ℕ) → IsPayload form payload → length payload ≤ 65344
 payload_len forms.Nothing payload none = omega (arith, ap length none)
@@ -130,15 +143,20 @@ status_small Unregister = omega arith
 status_small DisposeUnregister = omega arith
 status_small Marker = omega arith
 
+mark_sent : (set : SetMark) → IsMark set → IsMark (sent_set set)
+mark_sent NoSet good = tt
+mark_sent End good = tt
+mark_sent (Of number) good = good
+
 sample_range : (to writer : List ℕ) (number : ℕ) (s : Sample) (keyed : Bool) (d : DataSub) → IsSampleData to writer number s keyed d → IsGood s → number ≤ 2 ^ 63 - 2 → IsInRange (Data d)
 sample_range to writer number s keyed d x good small = record {
-  inline = subst IsWritable (sym x.inline) (record { strange = refl; status = status_small s.act; lifespan = good.lifespan; set = tt; original = good.original });
+  inline = subst IsWritable (sym x.inline) (record { strange = refl; status = status_small s.act; lifespan = good.lifespan; set = mark_sent s.set good.mark; original = good.original });
   number = omega (arith, x.number_is, small);
   payload = subst (λ (f : Form). IsPayloadOf f d.payload.now) (sym x.form) (subst (λ (t : List ℕ). IsPayloadOf s.form t) (sym x.payload) (payload_of s.form s.payload good.payload));
 }
 
-pub sample_back : (old new from to writer : List ℕ) (number n : ℕ) (s : Sample) (keyed : Bool) (d : DataSub) → length from ≡ 12 → number ≤ 2 ^ 63 - 2 → IsGood s → IsSampleData to writer number s keyed d → IsWritten old new from (sample_subs to s.stamp d) n → AllByRecursion ReadsBack (sample_subs to s.stamp d)
-    → TellsOne to (take n new) (facts.Data (from ++ writer) (drop 12 to) number (sample_raw s keyed))
-sample_back old new from to writer number n s keyed d len small good x w back =
-    told_one old new from to (sample_subs to s.stamp d) n _ len w back (tt, (tt, (sample_range to writer number s keyed d x good small, tt)))
-    (λ own a. sample_told own from to writer number s keyed d x (payload_len s.form s.payload good.payload) a)
+pub sample_back : (from to writer bytes : List ℕ) (number : ℕ) (s : Sample) (keyed : Bool) (d : DataSub) → number ≤ 2 ^ 63 - 2 → IsGood s → IsSampleData to writer number s keyed d → (AllByRecursion IsInRange (sample_subs to s.stamp d) → Tells from (sample_subs to s.stamp d) bytes)
+    → TellsOne to bytes (facts.Data (from ++ writer) (drop 12 to) number (sample_raw s keyed))
+sample_back from to writer bytes number s keyed d small good x back =
+    told_one from to bytes (sample_subs to s.stamp d) _ (back (tt, (tt, (sample_range to writer number s keyed d x good small, tt))))
+    (λ own. sample_told own from to writer number s keyed d x (payload_len s.form s.payload good.payload))

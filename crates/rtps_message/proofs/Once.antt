@@ -13,7 +13,7 @@ use Rattle.rtps_message.specs.declared.heard.End.{End}
 use Rattle.rtps_message.specs.declared.heard.End.TheVariants.{Whole, BadHeader, Stopped}
 use Rattle.rtps_message.specs.declared.heard.Heard.{Heard}
 use Rattle.rtps_message.specs.Facts.{start, after, data_fact, told, told_of}
-use Rattle.rtps_message.specs.Messages.{Splits, StopsAt, Ends, Hears}
+use Rattle.rtps_message.specs.Messages.{HasHeader, Splits, StopsAt, Ends, HasEnd, Hears, HasOneHearing}
 
 -- ---- a submessage is compared by what it tells
 
@@ -86,3 +86,20 @@ hears_once own bytes h g (inr x) (inr y) = x.1 ∙ sym y.1
 pub only_by : {E : Type 0} (own bytes : List ℕ) (r : Result Heard E) → IfOk r (λ h. Hears own bytes h) → IfOk r (λ h. (other : Heard) → Hears own bytes other → h ≡ other)
 only_by own bytes (Ok h) x = λ other y. hears_once own bytes h other x y
 only_by own bytes (Err e) x = tt
+
+-- a message with a header is heard by what its submessages tell
+pub hears_whole : (bytes : List ℕ) (end : End) → HasHeader bytes → HasEnd bytes end → HasOneHearing bytes
+hears_whole bytes end header h = record {
+  some = λ own. (
+    record { facts = told_of own (start bytes) h.subs; end = end },
+    inl (header, record { subs = h.subs; rest = h.rest; splits = h.splits; ends = h.ends; facts = refl }),
+  );
+  one = λ own. hears_once own bytes;
+}
+
+-- without a header it is heard as nothing
+pub hears_nothing : (bytes : List ℕ) → (HasHeader bytes → ⊥) → HasOneHearing bytes
+hears_nothing bytes none = record {
+  some = λ own. (record { facts = []; end = BadHeader }, inr (none, refl));
+  one = λ own. hears_once own bytes;
+}

@@ -42,8 +42,20 @@ pub record Says (own bytes : List ℕ) (c : Context) (heard : Heard) : Type 0 wh
   pub ends : Ends bytes rest heard.end
   pub facts : heard.facts ≡ told_of own c subs
 
+-- the submessages behind the header end so
+pub record HasEnd (bytes : List ℕ) (end : End) : Type 0 where
+  pub subs : List Sub
+  pub rest : List ℕ
+  pub splits : Splits (drop 20 bytes) subs rest
+  pub ends : Ends bytes rest end
+
 -- The facts and the end of a message. Without a good header it tells nothing.
 abbrev pub Hears : List ℕ → List ℕ → Heard → Type 0
 Hears own bytes heard =
     (HasHeader bytes × Says own bytes (start bytes) heard)
     ⊎ ((HasHeader bytes → ⊥) × (heard ≡ record { facts = []; end = BadHeader }))
+
+-- each participant hears one thing in it, and nothing else
+pub record HasOneHearing (bytes : List ℕ) : Type 0 where
+  pub some : (own : List ℕ) → (heard : Heard) × Hears own bytes heard
+  pub one : (own : List ℕ) (h g : Heard) → Hears own bytes h → Hears own bytes g → h ≡ g

@@ -6,10 +6,10 @@ use Rattle.dur_base.specs.declared.kinds.Shape.TheVariants as shapes
 use Rattle.dur_base.specs.declared.sample.Act.{Act}
 use Rattle.dur_base.specs.declared.sample.Act.TheVariants.{Dispose, DisposeUnregister, Marker}
 use Rattle.dur_base.specs.declared.sample.Form.TheVariants as forms
-use Rattle.dur_base.specs.declared.sample.SetMark.TheVariants.{NoSet, End}
+use Rattle.dur_base.specs.declared.sample.SetMark.TheVariants.{End}
 use Rattle.dur_base.specs.declared.sample.Sample.{Sample}
 use Rattle.rtps_message.specs.Samples.{reads}
-use Rattle.rtps_message.specs.Written.{IsChange, sample_raw, marker_raw}
+use Rattle.rtps_message.specs.Written.{IsChange, sent_set, sample_raw, marker_raw}
 
 -- a topic has keys unless its shape is none
 abbrev pub is_keyed : Shape → Bool
@@ -20,14 +20,14 @@ abbrev pub sent_act : Act → Act
 sent_act DisposeUnregister = Dispose
 sent_act act = act
 
--- a change as it is sent: a dispose without its unregister, and of no set
+-- a change as it is sent: a dispose without its unregister, and of its set or of none
 abbrev pub sent : Sample → Sample
 sent s = record {
   key = s.key;
   act = sent_act s.act;
   stamp = s.stamp;
   lifespan = s.lifespan;
-  set = NoSet;
+  set = sent_set s.set;
   original = s.original;
   form = s.form;
   payload = s.payload;

@@ -1,12 +1,14 @@
 -- The messages that the service writes.
-use Rattle.std.specs.Prelude.{◌≡◌, ◌⊎◌, ℕ, Bool, true, false, List, [], ◌∷◌, ◌++◌, length, take, drop, Some, None, if◌then◌else◌}
+use Rattle.std.specs.Prelude.{◌≡◌, ◌||◌, ℕ, Bool, true, false, List, [], ◌∷◌, ◌++◌, length, take, drop, Some, None, if◌then◌else◌}
 use Rattle.std.specs.List.{flat_map}
+use Rattle.std.specs.Str.{bytes_eq}
 use Rattle.dur_base.specs.NumberSets.{NumberSet}
 use Rattle.dur_base.specs.declared.fact.Fact.{Fact}
 use Rattle.dur_base.specs.declared.sample.Act.{Act}
 use Rattle.dur_base.specs.declared.sample.Act.TheVariants.{Write, Dispose, Unregister, DisposeUnregister, Marker}
 use Rattle.dur_base.specs.declared.sample.Form.TheVariants as forms
-use Rattle.dur_base.specs.declared.sample.SetMark.TheVariants.{NoSet, End}
+use Rattle.dur_base.specs.declared.sample.SetMark.{SetMark}
+use Rattle.dur_base.specs.declared.sample.SetMark.TheVariants.{NoSet, End, Of}
 use Rattle.dur_base.specs.declared.sample.Raw.{Raw}
 use Rattle.dur_base.specs.declared.sample.Sample.{Sample}
 use Rattle.rtps_params.specs.declared.inline.Inline.{Inline}
@@ -16,7 +18,8 @@ use Rattle.rtps_submsg.specs.declared.sub.Sub.TheVariants.{InfoTs, InfoDst, Data
 use Rattle.rtps_submsg.specs.Writing.{sub_text, IsInRange}
 use Rattle.rtps_submsg.specs.Subs.{SubSpells}
 use Rattle.rtps_message.specs.declared.heard.End.TheVariants.{Whole}
-use Rattle.rtps_message.specs.Facts.{everybody}
+use Rattle.rtps_message.specs.declared.context.Context.{Context}
+use Rattle.rtps_message.specs.Facts.{everybody, told_of}
 use Rattle.rtps_message.specs.Messages.{Hears}
 
 -- "RTPS", version 2.5, vendor 0000, and the prefix
@@ -41,13 +44,19 @@ status_of Dispose = 1
 status_of DisposeUnregister = 1
 status_of _ = 0
 
--- key hash unless the topic has no key, status, original, lifespan if finite
+-- the mark of a set is sent, and where there is none, no mark is
+abbrev pub sent_set : SetMark → SetMark
+sent_set (Of number) = Of number
+sent_set NoSet = NoSet
+sent_set End = NoSet
+
+-- key hash unless the topic has no key, status, original, lifespan if finite, the set if it is of one
 abbrev pub sample_list : Sample → Bool → Inline
 sample_list s keyed = record {
   hash = if keyed then Some s.key else None;
   status = status_of s.act;
   lifespan = s.lifespan;
-  set = NoSet;
+  set = sent_set s.set;
   original = s.original;
   strange = None;
 }
@@ -113,13 +122,21 @@ pub record WritesMarker (old new from to writer : List ℕ) (number : ℕ) (n : 
 abbrev pub ReadsBack : Sub → Type 0
 ReadsBack s = IsInRange s → (rest : List ℕ) → SubSpells (sub_text true s ++ rest) s (length (sub_text true s))
 
--- the destination is this participant, or everybody
-abbrev pub IsAddressed : List ℕ → List ℕ → Type 0
-IsAddressed own to = (take 12 to ≡ own) ⊎ (take 12 to ≡ everybody)
+-- what stands where a message from that prefix begins
+abbrev pub begin_at : List ℕ → Context
+begin_at prefix = record { source = prefix; destination = everybody; time = None }
 
--- the addressee hears this one fact, and no more
+-- each participant hears what these submessages tell it, and that the message is whole
+abbrev pub Tells : List ℕ → List Sub → List ℕ → Type 0
+Tells prefix subs bytes = (own : List ℕ) → Hears own bytes (record { facts = told_of own (begin_at prefix) subs; end = Whole })
+
+-- the destination is everybody, or this participant
+abbrev pub is_addressed : List ℕ → List ℕ → Bool
+is_addressed own to = bytes_eq (take 12 to) everybody || bytes_eq (take 12 to) own
+
+-- whom it is for hears this one fact and no more, and others hear nothing
 abbrev pub TellsOne : List ℕ → List ℕ → Fact → Type 0
-TellsOne to bytes fact = (own : List ℕ) → IsAddressed own to → Hears own bytes (record { facts = fact ∷ []; end = Whole })
+TellsOne to bytes fact = (own : List ℕ) → Hears own bytes (record { facts = if is_addressed own to then fact ∷ [] else []; end = Whole })
 
 -- what the DATA of a change is read as
 abbrev pub sample_raw : Sample → Bool → Raw
@@ -128,7 +145,7 @@ sample_raw s keyed = record {
   status = status_of s.act;
   stamp = Some s.stamp;
   lifespan = s.lifespan;
-  set = NoSet;
+  set = sent_set s.set;
   original = s.original;
   form = s.form;
   payload = s.payload;

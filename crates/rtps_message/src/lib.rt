@@ -12,9 +12,9 @@ mod writing;
 
 pub use heard::{End, Heard};
 pub use hearing::{facts, facts_of};
-pub use laws::{changes_read_again, markers_read_again};
+pub use laws::{changes_read_again, markers_read_again, one_hearing};
 pub use sample::sample_of;
-pub use writing::{write_acknack, write_data, write_heartbeat, write_marker};
+pub use writing::{write_acknack, write_data, write_heartbeat, write_marker, write_message};
 
 #[cfg(test)]
 mod tests;

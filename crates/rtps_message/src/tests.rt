@@ -6,7 +6,7 @@ use dur_base::{
     Shape, Ticks,
 };
 use rtps_params::ListKind;
-use rtps_submsg::SubKind;
+use rtps_submsg::{Sub, SubKind};
 use std::alloc::Global;
 
 /// The prefix of the service.
@@ -153,6 +153,7 @@ fn source_destination_and_time(rt: HostRuntime) {
     let message =
         b"RTPS\x02\x05\0\0\xa1\xa1\xa1\xa1\xa1\xa1\xa1\xa1\xa1\xa1\xa1\xa1\x09\x01\x08\0\x0a\0\0\0\0\0\0\0\x0e\x01\x0c\0\x01\x02\x03\x04\x05\x06\x07\x08\0\0\0\x01\x15\x07\x34\0\0\0\x10\0\0\0\0\0\0\0\x01\x02\0\0\0\0\x01\0\0\0p\0\x10\0\xaa\xaa\xaa\xaa\xaa\xaa\xaa\xaa\xaa\xaa\xaa\xaa\xaa\xaa\xaa\xaa\x01\0\0\0\0\x01\0\0*\0\0\0\x0c\x01\x14\0\0\0\0\0\x02\x05\0\0\xb2\xb2\xb2\xb2\xb2\xb2\xb2\xb2\xb2\xb2\xb2\xb2\x15\x07\x34\0\0\0\x10\0\0\0\0\0\0\0\x01\x02\0\0\0\0\x01\0\0\0p\0\x10\0\xaa\xaa\xaa\xaa\xaa\xaa\xaa\xaa\xaa\xaa\xaa\xaa\xaa\xaa\xaa\xaa\x01\0\0\0\0\x01\0\0*\0\0\0\x0e\x01\x0c\0\xc3\xc3\xc3\xc3\xc3\xc3\xc3\xc3\xc3\xc3\xc3\xc3\x07\x01\x1c\0\0\0\0\0\0\0\x01\x02\0\0\0\0\x01\0\0\0\0\0\0\0\x01\0\0\0\x01\0\0\0\x0e\x01\x0c\0\0\0\0\0\0\0\0\0\0\0\0\0\x06\x01\x18\0\0\0\x01\x07\x01\0\x01\x02\0\0\0\0\x01\0\0\0\0\0\0\0\x01\0\0\0";
     assert!(rt; tells(rt.alloc(), message, &[('d', 10), ('d', 0), ('n', 0)]));
+    one_hearing(message);
 }
 
 /// The key of a sample with that payload and no hash.
@@ -312,7 +313,7 @@ fn a_heartbeat_and_a_marker_are_written(rt: HostRuntime) {
 #[test]
 fn a_change_is_written(rt: HostRuntime) {
     let payload = Bytes::copy_from_slice(rt.alloc(), b"\0\x01\0\0*\0\0\0").expect(&rt, "memory");
-    let sample = Sample {
+    let mut sample = Sample {
         key: Key([0xaa; 16]),
         act: Act::Write,
         stamp: Ticks(5),
@@ -331,5 +332,26 @@ fn a_change_is_written(rt: HostRuntime) {
                 &out,
                 b"RTPS\x02\x05\0\0\x01\x02\x03\x04\x05\x06\x07\x08\0\0\0\x01\x0e\x01\x0c\0\xb2\xb2\xb2\xb2\xb2\xb2\xb2\xb2\xb2\xb2\xb2\xb2\x09\x01\x08\0\0\0\0\0\x05\0\0\0\x15\x07T\0\0\0\x10\0\0\0\x01\x07\x01\0\x01\x02\0\0\0\0\x01\0\0\0p\0\x10\0\xaa\xaa\xaa\xaa\xaa\xaa\xaa\xaa\xaa\xaa\xaa\xaa\xaa\xaa\xaa\xaaa\0\x1c\0\xa1\xa1\xa1\xa1\xa1\xa1\xa1\xa1\xa1\xa1\xa1\xa1\0\0\x01\x02\0\0\0\0\x01\0\0\0\x01\0\0\0\x01\0\0\0\0\x01\0\0*\0\0\0"
             )
+    );
+    // The mark of a set stands behind the original.
+    sample.set = SetMark::Of(Number::one());
+    assert!(rt; sample.is_good());
+    let len = write_data(OWN, LATE, REPLAY, Number::one(), &sample, true, &mut out);
+    assert!(rt;
+        len == 148
+            && begins(
+                &out[124..],
+                b"V\0\x08\0\0\0\0\0\x01\0\0\0\x01\0\0\0\0\x01\0\0*\0\0\0"
+            )
+    );
+}
+
+#[test]
+fn a_message_is_written(rt: HostRuntime) {
+    let mut out = [7; 26];
+    let len = write_message(OWN, &[Sub::InfoTs(None)], &mut out);
+    assert!(rt; len == 24);
+    assert!(rt;
+        out == *b"RTPS\x02\x05\0\0\x01\x02\x03\x04\x05\x06\x07\x08\0\0\0\x01\x09\x03\0\0\x07\x07"
     );
 }

@@ -4,9 +4,9 @@ ghost use Rattle.std.specs.Prelude.{◌≡◌, ◌≤◌, ◌+◌, ◌-◌, ◌^
 ghost use Rattle.std.specs.List.{AllByRecursion};
 ghost use Rattle.dur_base.specs.Goodness.{IsGood, zero_key};
 ghost use Rattle.rtps_params.specs.Writing.{IsWholeKey, IsWholeOriginal};
-ghost use Rattle.rtps_submsg.specs.Writing.{HasText, sub_text};
+ghost use Rattle.rtps_submsg.specs.Writing.{HasText, IsInRange, sub_text};
 ghost use Rattle.rtps_submsg.specs.declared.sub.DataSub.{DataSub};
-ghost use Rattle.rtps_message.specs.Written.{opening, message, acknack_subs, heartbeat_subs, status_of, sample_list, IsSampleData, IsMarkerData, IsChange, WritesSample, WritesMarker, IsWritten, ReadsBack, TellsOne, sample_raw, marker_raw};
+ghost use Rattle.rtps_message.specs.Written.{opening, message, acknack_subs, heartbeat_subs, status_of, sent_set, sample_list, IsSampleData, IsMarkerData, IsChange, WritesSample, WritesMarker, IsWritten, ReadsBack, Tells, TellsOne, sample_raw, marker_raw};
 ghost use Rattle.dur_base.specs.declared.fact.Fact.TheVariants.{Data, Beat, Nack};
 
 use dur_base::{Act, Bits, EntityId, Form, Guid, Key, Number, Prefix, Sample, SetMark};
@@ -40,13 +40,18 @@ fn put(sub: &Sub<'_>, at: usize, out: &mut [u8]) -> usize
     }
 }
 
-/// Writes a header and these submessages.
-fn write_message(from: Prefix, subs: &[Sub<'_>], out: &mut [u8]) -> usize
+/// Writes a message, and says how many octets it takes: a header of version 2.5 and vendor 0000, and these
+/// submessages, little-endian. It takes no memory. Conditions: each submessage has a text, so that it is none
+/// that is passed over and its length can be said, and `out` has room for all of them (DDSI-RTPS 8.3.3, 9.4).
+pub fn write_message(from: Prefix, subs: &[Sub<'_>], out: &mut [u8]) -> usize
     requires texts { AllByRecursion (HasText true) subs.now }
     requires room { length (message from subs.now) ≤ length out.old }
     ensures written { IsWritten out.old out.new from subs.now result }
-    ensures back { AllByRecursion ReadsBack subs.now }
+    // Each participant hears what they tell it, and that the message is whole, where their fields lie in the
+    // ranges of the table.
+    ensures back { AllByRecursion IsInRange subs.now → Tells from subs.now (take result out.new) }
 {
+    prefix_size(from);
     let header = header(from);
     let (front, _) = out.split_at_mut(20);
     front.copy_from_slice(&header);
@@ -114,7 +119,7 @@ pub fn write_heartbeat(
 ) -> usize
     requires { 65507 ≤ length out.old }
     ensures written { IsWritten out.old out.new from (heartbeat_subs to writer last count) result }
-    // Whom it is for hears this alone.
+    // Whom it is for hears this alone, and others nothing.
     ensures back { TellsOne to (take result out.new) (Beat (from ++ writer) (drop 12 to) 1 last false) }
 {
     prefix_size(from);
@@ -147,7 +152,7 @@ pub fn write_acknack(
 ) -> usize
     requires { 65507 ≤ length out.old }
     ensures written { IsWritten out.old out.new (take 12 from) (acknack_subs from to set.now is_final count) result }
-    // Whom it is for hears this alone.
+    // Whom it is for hears this alone, and others nothing.
     ensures back { TellsOne to (take result out.new) (Nack from (drop 12 to) set.now is_final) }
 {
     guid_size(from);
@@ -176,6 +181,16 @@ fn status_of(act: Act) -> u8
     }
 }
 
+/// The mark that is sent: that of a set, or none.
+fn sent_set(set: SetMark) -> SetMark
+    ensures { result ≡ sent_set set }
+{
+    match set {
+        SetMark::Of(number) => SetMark::Of(number),
+        SetMark::NoSet | SetMark::End => SetMark::NoSet,
+    }
+}
+
 /// The inline QoS of a change.
 fn sample_list(sample: &Sample, keyed: bool) -> Inline
     ensures { result ≡ sample_list sample.now keyed }
@@ -184,7 +199,7 @@ fn sample_list(sample: &Sample, keyed: bool) -> Inline
         hash: if keyed { Some(sample.key) } else { None },
         status: status_of(sample.act),
         lifespan: sample.lifespan,
-        set: SetMark::NoSet,
+        set: sent_set(sample.set),
         original: sample.original,
         strange: None,
     }
@@ -249,7 +264,7 @@ pub fn write_data(
     requires original { IsSome sample.now.original }
     requires key { IsFalse keyed → sample.now.key ≡ zero_key }
     ensures written { WritesSample out.old out.new from to writer number sample.now keyed result }
-    // Whom it is for hears this alone, where the number is one of a sample.
+    // Whom it is for hears this alone, and others nothing, where the number is one of a sample.
     ensures back { number ≤ 2 ^ 63 - 2 → TellsOne to (take result out.new) (Data (from ++ writer) (drop 12 to) number (sample_raw sample.now keyed)) }
 {
     prefix_size(from);
@@ -276,7 +291,7 @@ pub fn write_marker(
 ) -> usize
     requires { 65507 ≤ length out.old }
     ensures written { WritesMarker out.old out.new from to writer number result }
-    // Whom it is for hears this alone, where the number is one of a sample.
+    // Whom it is for hears this alone, and others nothing, where the number is one of a sample.
     ensures back { number ≤ 2 ^ 63 - 2 → TellsOne to (take result out.new) (Data (from ++ writer) (drop 12 to) number marker_raw) }
 {
     prefix_size(from);

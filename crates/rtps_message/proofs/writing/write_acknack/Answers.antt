@@ -1,5 +1,4 @@
-use Rattle.std.proofs.Common.{◌≡◌, length, take, arith}
-use Rattle.std.proofs.lemmas.List.{length-take}
+use Rattle.std.proofs.Common.{arith}
 use Rattle.rtps_message.proofs.Back.{acknack_back}
 use Rattle.rtps_message.proofs.Places.{acknack_fits}
 use Rattle.rtps_message.proofs.writing.write_acknack.Goals as goal
@@ -15,7 +14,5 @@ write_message-requires-clause-room c =
 
 pub returns-clause-back : goal.returns-clause-back
 returns-clause-back c =
-    let back = rw (c.prefix.ensures, c.entity.ensures, c.entity-2.ensures) at c.write_message.ensures.back in
-    let written = rw (c.prefix.ensures, c.prefix-2.ensures, c.entity.ensures, c.entity-2.ensures) at c.write_message.ensures.written in
-    let len : length (take 12 c.args.from) ≡ 12 = omega (arith, length-take 12 c.args.from, c.guid_size.ensures) in
-    acknack_back _ _ c.args.from c.args.to c.args.set.now c.args.is_final c.args.count _ len written back
+    let back = rw (c.prefix.ensures, c.prefix-2.ensures, c.entity.ensures, c.entity-2.ensures) at c.write_message.ensures.back in
+    acknack_back c.args.from c.args.to _ c.args.set.now c.args.is_final c.args.count back

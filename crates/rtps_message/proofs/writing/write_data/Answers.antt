@@ -24,5 +24,4 @@ returns-clause-written c = record { d = c.sample_data.result; is = c.sample_data
 pub returns-clause-back : goal.returns-clause-back
 returns-clause-back c small =
     let back = rw c.prefix.ensures at c.write_message.ensures.back in
-    let written = rw c.prefix.ensures at c.write_message.ensures.written in
-    sample_back _ _ c.args.from c.args.to c.args.writer c.args.number _ c.args.sample.now c.args.keyed c.sample_data.result c.prefix_size.ensures small c.requires.good c.sample_data.ensures written back
+    sample_back c.args.from c.args.to c.args.writer _ c.args.number c.args.sample.now c.args.keyed c.sample_data.result small c.requires.good c.sample_data.ensures back

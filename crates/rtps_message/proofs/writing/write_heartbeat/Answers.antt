@@ -15,5 +15,4 @@ write_message-requires-clause-room c =
 pub returns-clause-back : goal.returns-clause-back
 returns-clause-back c =
     let back = rw (c.prefix.ensures, c.entity.ensures, c.one.ensures, c.get.ensures.value) at c.write_message.ensures.back in
-    let written = rw (c.prefix.ensures, c.entity.ensures, c.one.ensures, c.get.ensures.value) at c.write_message.ensures.written in
-    heartbeat_back _ _ c.args.from c.args.to c.args.writer c.args.last c.args.count _ c.prefix_size.ensures (omega (arith, c.get.ensures.value, c.get.ensures.range.1)) written back
+    heartbeat_back c.args.from c.args.to c.args.writer _ c.args.last c.args.count (omega (arith, c.get.ensures.value, c.get.ensures.range.1)) back

@@ -22,5 +22,4 @@ returns-clause-written c = record { d = c.marker_data.result; is = c.marker_data
 pub returns-clause-back : goal.returns-clause-back
 returns-clause-back c small =
     let back = rw c.prefix.ensures at c.write_message.ensures.back in
-    let written = rw c.prefix.ensures at c.write_message.ensures.written in
-    marker_back _ _ c.args.from c.args.to c.args.writer c.args.number _ c.marker_data.result c.prefix_size.ensures small c.marker_data.ensures written back
+    marker_back c.args.from c.args.to c.args.writer _ c.args.number c.marker_data.result small c.marker_data.ensures back

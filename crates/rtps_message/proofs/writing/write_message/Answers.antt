@@ -3,6 +3,7 @@ use Rattle.std.proofs.lemmas.List.{take_all}
 use Rattle.std.specs.List.{AllByRecursion}
 use Rattle.rtps_submsg.specs.declared.sub.Sub.{Sub}
 use Rattle.rtps_message.specs.Written.{IsWritten, ReadsBack}
+use Rattle.rtps_message.proofs.Back.{tells_back}
 use Rattle.rtps_message.proofs.Places.{opened, one_more, room_for, all_more, opening_long}
 use Rattle.rtps_message.proofs.writing.write_message.Goals as goal
 
@@ -34,4 +35,7 @@ pub returns-clause-written : goal.returns-clause-written
 returns-clause-written c = subst (λ (t : List Sub). IsWritten c.args.out.now c.loop-sub.out c.args.from t c.loop-sub.at) (take_all c.loop-sub.sub-index c.args.subs.now (omega (arith, c.loop-sub-test.false))) c.loop-sub.invariant.written
 
 pub returns-clause-back : goal.returns-clause-back
-returns-clause-back c = subst (λ (t : List Sub). AllByRecursion ReadsBack t) (take_all c.loop-sub.sub-index c.args.subs.now (omega (arith, c.loop-sub-test.false))) c.loop-sub.invariant.back
+returns-clause-back c =
+    let all = take_all c.loop-sub.sub-index c.args.subs.now (omega (arith, c.loop-sub-test.false)) in
+    let written = subst (λ (t : List Sub). IsWritten c.args.out.now c.loop-sub.out c.args.from t c.loop-sub.at) all c.loop-sub.invariant.written in
+    tells_back _ _ c.args.from c.args.subs.now c.loop-sub.at c.prefix_size.ensures written (subst (λ (t : List Sub). AllByRecursion ReadsBack t) all c.loop-sub.invariant.back)
