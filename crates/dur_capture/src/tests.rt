@@ -1,6 +1,6 @@
 //! Captures that were written by hand, with the places where they break.
 
-use crate::{CapFault, Feed, read_capture, write_record};
+use crate::{CapFault, Feed, one_reading, read_capture, write_record};
 use dur_base::Ticks;
 
 // A heartbeat's record: moment 5, port 7412, 52 octets.
@@ -87,6 +87,7 @@ const TWO: [u8; 30] = [
 
 #[test]
 fn a_capture_reads_the_same_wherever_it_is_cut(rt: HostRuntime) {
+    one_reading(0, &TWO);
     let alloc = rt.alloc();
     for at in 0..31 {
         let (front, back) = TWO.as_slice().split_at(at);
