@@ -17,8 +17,8 @@ pub fn one_answer()
     ensures one_break { (f : Feeding) (ended : Bool) (d e : CapFault) → Breaks f ended d → Breaks f ended e → d ≡ e }
 {}
 
-/// Any octets behind so many of input are a capture or break off at one place, and never both: the records, or
-/// the place and the kind of the first break, are determined. It takes no memory.
+/// Any octets behind so many of input are a capture or break off at one place, and never both: the records, or the
+/// place and the kind of the first break, are determined. It takes no memory.
 pub fn one_reading(before: u64, octets: &[u8])
     requires { before ≤ 2 ^ 40 }
     ensures { HasOneReading before octets.now }

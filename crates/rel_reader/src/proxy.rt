@@ -136,7 +136,8 @@ impl Proxy {
     /// Those of the numbers from one up to below another that are in the window are irrelevant.
     fn pass_between(&mut self, from: u64, to: u64)
         requires { to < 2 ^ 63 }
-        ensures { (n : ℕ) (f : ℕ → Known) → Shows self.old n f → Shows self.new n (λ k. or_else (f k) (said_between n from to k)) }
+        ensures { (n : ℕ) (f : ℕ → Known) → Shows self.old n f
+            → Shows self.new n (λ k. or_else (f k) (said_between n from to k)) }
     {
         let end = from.max(to.min(self.next + 256));
         for k in from..end {
@@ -236,14 +237,16 @@ impl Proxy {
     }
 
     /// What stands at the next number. `Nothing` comes exactly where it is not known. A skip is the longest range of
-    /// irrelevant numbers from the next one on.
+    /// irrelevant numbers from the next one on, and ends below 2^63 - 1 where it begins there.
     pub fn ready(&self) -> Ready
         ensures sample { (h : Story) → Fits self.now h → ((result ≡ Ready.Sample) ↔ (is_with (known h (next h)) ≡ true)) }
         ensures skip { (h : Story) → Fits self.now h → (from to : ℕ) → result ≡ Ready.Skip from to → (from ≡ next h) × IsSkip h (to + 1) }
         ensures nothing { (h : Story) → Fits self.now h → ((result ≡ Ready.Nothing) ↔ (known h (next h) ≡ Unknown)) }
         ensures has { (result ≡ Ready.Sample) ↔ HasSample self.now }
-        ensures some { (result ≡ Ready.Nothing) ↔ (is_unknown (known_in self.now self.now.next) ≡ true) }
-        ensures short { (from to : ℕ) → result ≡ Ready.Skip from to → self.now.next < 2 ^ 63 - 1 → to < 2 ^ 63 - 1 }
+        ensures some { (result ≡ Ready.Nothing)
+            ↔ (is_unknown (known_in self.now self.now.next) ≡ true) }
+        ensures short { (from to : ℕ) → result ≡ Ready.Skip from to
+            → self.now.next < 2 ^ 63 - 1 → to < 2 ^ 63 - 1 }
     {
         if self.is_unknown(self.next) {
             Ready::Nothing
@@ -286,13 +289,15 @@ impl Proxy {
         }
     }
 
-    /// Moves past what is ready, a sample or a whole skip, and hands back the sample. Where nothing is ready it changes
-    /// nothing and answers None.
+    /// Moves past what is ready, a sample or a whole skip, and hands back the sample: the next number rises. Where
+    /// nothing is ready it changes nothing and answers None.
     pub fn handled(&mut self) -> Option<Sample>
         ensures sample { (h : Story) (s : Sample) → Fits self.old h → known h (next h) ≡ With s → (result ≡ Some s) × Fits self.new (h ▸ Handled (next h + 1)) }
         ensures skip { (h : Story) → Fits self.old h → known h (next h) ≡ Irrelevant → (result ≡ None) × ((to : ℕ) × (IsSkip h to × Fits self.new (h ▸ Handled to))) }
         ensures nothing { (h : Story) → Fits self.old h → known h (next h) ≡ Unknown → (result ≡ None) × Fits self.new h }
-        ensures rises { is_unknown (known_in self.old self.old.next) ≡ false → self.old.next < 2 ^ 63 - 1 → (self.old.next < self.new.next) × (self.new.next < 2 ^ 63) }
+        ensures rises { is_unknown (known_in self.old self.old.next) ≡ false
+            → self.old.next < 2 ^ 63 - 1
+            → (self.old.next < self.new.next) × (self.new.next < 2 ^ 63) }
     {
         if self.next >= LAST || self.is_unknown(self.next) {
             return None;

@@ -1,4 +1,4 @@
-use Rattle.std.proofs.Common.{◌≡◌, ◌∙◌, ℕ, ap, arith}
+use Rattle.std.proofs.Common.{ap, arith}
 use Rattle.rel_reader.specs.Knowledge.{or_else}
 use Rattle.rel_reader.specs.Windows.{Window}
 use Rattle.rel_reader.proofs.Learning.{same_shown}

@@ -1,7 +1,6 @@
-use Rattle.std.proofs.Common.{◌≡◌, ◌∙◌, ℕ, ap, subst, arith, sym}
+use Rattle.std.proofs.Common.{ap, arith}
 use Rattle.rel_reader.specs.Knowledge.{or_else}
-use Rattle.rel_reader.specs.Windows.{Window, Shows}
-use Rattle.rel_reader.specs.Steps.{said_between}
+use Rattle.rel_reader.specs.Windows.{Window}
 use Rattle.rel_reader.proofs.Learning.{same_shown}
 use Rattle.rel_reader.proofs.Between.{one_more, to_the_window}
 use Rattle.rel_reader.proofs.proxy.Proxy.pass_between.Goals as goal
