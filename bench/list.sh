@@ -1,7 +1,8 @@
 #!/usr/bin/env bash
-# How fast `durability list` goes over captures of 1,000 and of 10,000 datagrams, as datagrams a
-# second and as a ratio to `cat` of the same file. The plain list behind it filters all entries for
-# each entry, so its time grows with the square of their number.
+# How fast `durability list` goes over captures of 10,000 and of 20,000 datagrams, as datagrams a
+# second and as a ratio to `cat` of as many octets. What a run over the plan alone takes is the start
+# of a process, and is not counted. The plain list behind it filters all entries for each entry, so its
+# time grows with the square of their number.
 set -eu
 cd "$(dirname "$0")/.."
 program=${1:-crates/durability/out/durability}
@@ -20,9 +21,11 @@ def record(number):
     data = struct.pack("<HHI", 0, 16, 0) + bytes.fromhex("00000102") + struct.pack("<II", 0, number) + bytes.fromhex("70001000") + key + bytes.fromhex("01000000") + payload
     datagram = head + b"\x15\x07" + struct.pack("<H", len(data)) + data
     return struct.pack("<QHI", number << 32, 7400, len(datagram)) + datagram
-for count in (1000, 10000):
+for count in (0, 10000, 20000):
     with open(f"{sys.argv[1]}/{count}", "wb") as out:
         out.write(plan + b"".join(record(number) for number in range(1, count + 1)))
+with open(f"{sys.argv[1]}/large", "wb") as out:
+    out.write(bytes(1 << 27))
 PYTHON
 # The least of five times of a command over a file, in microseconds.
 least() {
@@ -36,8 +39,13 @@ least() {
     done
     echo "$best"
 }
-for count in 1000 10000; do
-    cat_time=$(least "$folder/$count" cat)
+list_start=$(least "$folder/0" "$program" list)
+cat_start=$(least "$folder/0" cat)
+cat_large=$(least "$folder/large" cat)
+for count in 10000 20000; do
     list_time=$(least "$folder/$count" "$program" list)
-    echo "$count datagrams: $((count * 1000000 / list_time)) datagrams/s, $(awk "BEGIN { printf \"%.1f\", $list_time / $cat_time }") times cat"
+    awk -v count="$count" -v size="$(wc -c < "$folder/$count")" -v large="$(wc -c < "$folder/large")" \
+        -v list="$((list_time - list_start))" -v cat="$((cat_large - cat_start))" 'BEGIN {
+            printf "%d datagrams: %d datagrams/s, %.1f times cat\n", count, count * 1000000 / list, list / (cat * size / large)
+        }'
 done
