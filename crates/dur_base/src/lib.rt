@@ -7,6 +7,7 @@ mod entry;
 mod fact;
 mod fields;
 mod kinds;
+mod limits;
 mod lists;
 mod memory;
 mod names;
@@ -23,6 +24,7 @@ pub use fields::{
     octets_of_sequence, sequence_of, u16_octets, u16_of, u32_octets, u32_of, u64_octets, u64_of,
 };
 pub use kinds::{Durability, Shape};
+pub use limits::{GREATEST_NUMBER, LONGEST_PAYLOAD, TICKS_OF_A_SECOND};
 pub use lists::List;
 pub use memory::OutOfMemory;
 pub use names::{Name, is_a_name};

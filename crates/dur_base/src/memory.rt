@@ -1,5 +1,21 @@
 //! Want of memory, the one answer that comes without a stated cause.
 
-/// There was not enough memory.
-#[derive(Clone, Copy, Debug, PartialEq, Eq, Drop)]
+use std::alloc::{AllocError, AllocFailed};
+use thiserror::Error;
+
+/// There was not enough memory. `?` makes it of each error of an allocation.
+#[derive(Clone, Copy, Debug, PartialEq, Eq, Drop, Error)]
+#[error("out of memory")]
 pub struct OutOfMemory;
+
+impl From<AllocError> for OutOfMemory {
+    fn from(_: AllocError) -> OutOfMemory {
+        OutOfMemory
+    }
+}
+
+impl<T: Drop> From<AllocFailed<T>> for OutOfMemory {
+    fn from(_: AllocFailed<T>) -> OutOfMemory {
+        OutOfMemory
+    }
+}

@@ -2,6 +2,7 @@
 
 ghost use Rattle.std.specs.Prelude.{◌≡◌, ◌++◌, ◌<◌, ◌≤◌, ◌+◌, ◌^◌, ◌↔◌, IsSome, IfSome, max, take, drop, length};
 
+use crate::GREATEST_NUMBER;
 use std::marker::Model;
 
 /// A participant's GUID prefix, 12 octets (DDSI-RTPS 9.3.1.5).
@@ -143,7 +144,7 @@ impl Number {
         ensures some { IfSome result (λ n. n ≡ value) }
         ensures within { IsSome result ↔ ((0 < value) × (value < 2 ^ 63)) }
     {
-        if 0 < value && value < 0x8000_0000_0000_0000 {
+        if 0 < value && value <= GREATEST_NUMBER {
             Some(Number { value })
         } else {
             None

@@ -65,10 +65,8 @@ impl Octets {
         ensures ok { OnOk result (self.new ≡ self.old ++ more.now) }
         ensures err { OnErr result (self.new ≡ self.old) }
     {
-        match self.bytes.extend_from_slice(more) {
-            Ok(()) => Ok(()),
-            Err(_) => Err(OutOfMemory),
-        }
+        self.bytes.extend_from_slice(more)?;
+        Ok(())
     }
 }
 
@@ -112,10 +110,8 @@ impl Payload {
     pub fn share(&self) -> Result<Payload, OutOfMemory>
         ensures { IfOk result (λ p. p ≡ self.now) }
     {
-        match self.bytes.clone() {
-            Ok(bytes) => Ok(Payload { bytes }),
-            Err(_) => Err(OutOfMemory),
-        }
+        let bytes = self.bytes.clone()?;
+        Ok(Payload { bytes })
     }
 
     /// The payload of its octets from `from` to below `to`, which are not copied.
@@ -124,9 +120,7 @@ impl Payload {
         requires within { to ≤ length self.now }
         ensures { IfOk result (λ p. p ≡ slice_range self.now from to) }
     {
-        match self.bytes.slice(from..to) {
-            Ok(bytes) => Ok(Payload { bytes }),
-            Err(_) => Err(OutOfMemory),
-        }
+        let bytes = self.bytes.slice(from..to)?;
+        Ok(Payload { bytes })
     }
 }

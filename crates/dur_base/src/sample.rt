@@ -3,7 +3,7 @@
 ghost use Rattle.std.specs.Prelude.{◌≡◌, ◌≤◌, ◌<◌, ◌+◌, ◌*◌, ◌^◌, ◌↔◌, IfOk, IfSome, IsTrue, [], length};
 ghost use Rattle.dur_base.specs.Goodness.{IsGood, IsGoodRaw, IsLifespan, IsMark, IsOriginal, IsPayload, IsAct};
 
-use crate::{Guid, Key, Number, OutOfMemory, Payload, Ticks};
+use crate::{GREATEST_NUMBER, Guid, Key, LONGEST_PAYLOAD, Number, OutOfMemory, Payload, Ticks};
 
 /// What a sample does to its instance.
 #[derive(Clone, Copy, Debug, PartialEq, Eq, Drop)]
@@ -138,7 +138,7 @@ fn is_mark(set: SetMark) -> bool
     ensures { IsTrue result ↔ IsMark set }
 {
     match set {
-        SetMark::Of(number) => number.get() < 0x7fff_ffff_ffff_ffff,
+        SetMark::Of(number) => number.get() < GREATEST_NUMBER,
         SetMark::NoSet | SetMark::End => true,
     }
 }
@@ -147,7 +147,7 @@ fn is_original(original: Option<(Guid, Number)>) -> bool
     ensures { IsTrue result ↔ IsOriginal original }
 {
     match original {
-        Some((_, number)) => number.get() < 0x7fff_ffff_ffff_ffff,
+        Some((_, number)) => number.get() < GREATEST_NUMBER,
         None => true,
     }
 }
@@ -157,7 +157,7 @@ fn is_payload(form: Form, payload: &Payload) -> bool
 {
     match form {
         Form::Nothing => payload.len() == 0,
-        Form::Data | Form::KeyOnly => payload.len() <= 65_344,
+        Form::Data | Form::KeyOnly => payload.len() <= LONGEST_PAYLOAD,
     }
 }
 

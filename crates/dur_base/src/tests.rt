@@ -1,9 +1,9 @@
 //! Each public call on its happy path, with values worked out by hand.
 
 use crate::{
-    Act, Bits, EntityId, Entry, Form, Guid, Key, List, Name, Number, Octets, Payload, Prefix, Raw,
-    Sample, SetMark, Ticks, is_a_name, later, octets_of_sequence, sequence_of, sets_have_one_form,
-    u16_octets, u16_of, u32_octets, u32_of, u64_octets, u64_of,
+    Act, Bits, EntityId, Entry, Form, Guid, Key, List, Name, Number, Octets, OutOfMemory, Payload,
+    Prefix, Raw, Sample, SetMark, Ticks, is_a_name, later, octets_of_sequence, sequence_of,
+    sets_have_one_form, u16_octets, u16_of, u32_octets, u32_of, u64_octets, u64_of,
 };
 use bytes::Bytes;
 use std::alloc::Global;
@@ -29,6 +29,12 @@ fn numbers_and_identities(rt: HostRuntime) {
     assert!(rt; guid.prefix() == Prefix([0xa1; 12]) && guid.entity() == EntityId([0, 0, 1, 2]));
     assert!(rt; Number::new(0).is_none() && Number::new(0x8000_0000_0000_0000).is_none());
     assert!(rt; Number::at(7).next().get() == 8 && later(Ticks(5), Ticks(6)) == Ticks(6));
+}
+
+#[test]
+fn want_of_memory_has_a_text(rt: HostRuntime) {
+    let text = OutOfMemory.to_string(rt.alloc()).expect(&rt, "memory");
+    assert!(rt; text.as_str() == "out of memory");
 }
 
 #[test]

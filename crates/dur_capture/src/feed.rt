@@ -50,10 +50,8 @@ impl Feed {
         ensures ok { OnOk result (self.new ≡ record self.old { left = self.old.left ++ piece.now }) }
         ensures err { OnErr result (self.new ≡ self.old) }
     {
-        match self.left.extend_from_slice(piece) {
-            Ok(()) => Ok(()),
-            Err(_) => Err(OutOfMemory),
-        }
+        self.left.extend_from_slice(piece)?;
+        Ok(())
     }
 
     /// The next record. None comes where what is left is part of a record and more may come, or where nothing is left.

@@ -33,10 +33,7 @@ fn take_piece(feed: &mut Feed, piece: &[u8], records: &mut List<Record>) -> Resu
     ensures fed { (before : ℕ) (octets : Sequence ℕ) → Feeds before octets records.old feed.old → OnOk result (Feeds before (octets ++ piece.now) records.new feed.new) }
     ensures fault { (before : ℕ) (octets : Sequence ℕ) → Feeds before octets records.old feed.old → IfErr result (λ e. IsFault before (octets ++ piece.now) false e) }
 {
-    match feed.push(piece) {
-        Ok(()) => {}
-        Err(_) => return Err(CapFault::OutOfMemory),
-    }
+    feed.push(piece)?;
     take_all(feed, false, records)
 }
 

@@ -1,7 +1,10 @@
 //! What calls of the outside name and answer.
 
+use thiserror::Error;
+
 /// A call of the outside failed, and its count of faults rose. Why it failed is not told.
-#[derive(Clone, Copy, Debug, PartialEq, Eq, Drop)]
+#[derive(Clone, Copy, Debug, PartialEq, Eq, Drop, Error)]
+#[error("a call of the outside failed")]
 pub struct Failed;
 
 /// One of the two files of a disk.

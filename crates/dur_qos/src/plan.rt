@@ -82,10 +82,7 @@ fn topics_of(alloc: Global, topics: &[Topic]) -> Result<List<Topic>, OutOfMemory
     let mut copies = List::new(alloc);
     let mut rest = topics;
     while let [topic, later @ ..] = rest {
-        match copies.push(topic.copy()) {
-            Ok(()) => {}
-            Err(_) => return Err(OutOfMemory),
-        }
+        copies.push(topic.copy())?;
         rest = later;
     }
     Ok(copies)
@@ -97,23 +94,14 @@ impl Plan {
         ensures { IfOk result (λ p. p ≡ self.now) }
     {
         let alloc = self.topics.alloc();
-        let topics = match topics_of(alloc, self.topics.as_slice()) {
-            Ok(topics) => topics,
-            Err(_) => return Err(OutOfMemory),
-        };
-        let writers = match Vec::from_slice(alloc, self.writers.as_slice()) {
-            Ok(writers) => List::of(writers),
-            Err(_) => return Err(OutOfMemory),
-        };
-        let readers = match Vec::from_slice(alloc, self.readers.as_slice()) {
-            Ok(readers) => List::of(readers),
-            Err(_) => return Err(OutOfMemory),
-        };
+        let topics = topics_of(alloc, self.topics.as_slice())?;
+        let writers = Vec::from_slice(alloc, self.writers.as_slice())?;
+        let readers = Vec::from_slice(alloc, self.readers.as_slice())?;
         Ok(Plan {
             prefix: self.prefix,
             topics,
-            writers,
-            readers,
+            writers: List::of(writers),
+            readers: List::of(readers),
         })
     }
 }

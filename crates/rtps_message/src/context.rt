@@ -6,7 +6,7 @@ ghost use Rattle.rtps_submsg.specs.Writing.{payload_text};
 ghost use Rattle.rtps_message.specs.Facts.{is_for, start, after, told, data_fact, IsPartBefore};
 ghost use Rattle.rtps_message.specs.Messages.{HasHeader};
 
-use dur_base::{Fact, Guid, OutOfMemory, Payload, Prefix, Raw, Ticks};
+use dur_base::{Fact, Guid, LONGEST_PAYLOAD, OutOfMemory, Payload, Prefix, Raw, Ticks};
 use rtps_submsg::{DataSub, Sub};
 
 /// What stands for the submessages that follow (DDSI-RTPS 8.3.4).
@@ -70,7 +70,7 @@ impl Context {
         let writer = Guid::of(self.source, sub.writer);
         let reader = sub.reader;
         let number = sub.number;
-        if sub.inline.strange.is_some() || sub.payload.len() > 65_344 {
+        if sub.inline.strange.is_some() || sub.payload.len() > LONGEST_PAYLOAD {
             return Ok(Fact::Unreadable {
                 writer,
                 reader,

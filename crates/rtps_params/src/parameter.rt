@@ -3,7 +3,7 @@
 ghost use Rattle.std.specs.Prelude.{◌≡◌, ◌≤◌, length, take};
 ghost use Rattle.rtps_params.specs.Table.{sample_number_of, hash_at, status_at, lifespan_at, set_at, original_at, parameter_at};
 
-use dur_base::{Guid, Key, Number, SetMark, Ticks, sequence_of, u32_of};
+use dur_base::{Guid, Key, Number, SetMark, TICKS_OF_A_SECOND, Ticks, sequence_of, u32_of};
 
 /// PID_SENTINEL, which ends a list.
 pub const SENTINEL: u16 = 0x0001;
@@ -127,7 +127,7 @@ fn lifespan_of(value: &[u8], little: bool) -> Option<Parameter>
     if seconds == INFINITE {
         return Some(Parameter::Lifespan(None));
     }
-    let ticks = u64::from(seconds) * 0x1_0000_0000 + u64::from(u32_of(fraction, little));
+    let ticks = u64::from(seconds) * TICKS_OF_A_SECOND + u64::from(u32_of(fraction, little));
     Some(Parameter::Lifespan(Some(Ticks(ticks))))
 }
 

@@ -6,7 +6,7 @@ ghost use Rattle.rtps_submsg.specs.RowSteps.{acknack_at, last_at, heartbeat_at, 
 
 use crate::field::{Body, Broken, has};
 use crate::sub::{Sub, SubKind};
-use dur_base::{Number, Ticks};
+use dur_base::{GREATEST_NUMBER, Number, TICKS_OF_A_SECOND, Ticks};
 
 /// The flag F: no answer is asked for.
 const FINAL: u8 = 0x02;
@@ -47,7 +47,7 @@ impl<'a> Body<'a> {
     {
         let bad = self.breaks(SubKind::BadRange);
         let last = self.sequence(little)?;
-        if last >= 0x8000_0000_0000_0000 || last + 1 < first.get() {
+        if last > GREATEST_NUMBER || last + 1 < first.get() {
             return Err(bad);
         }
         Ok(last)
@@ -108,7 +108,7 @@ pub fn info_ts<'a>(body: &'a [u8], flags: u8, little: bool) -> Result<Sub<'a>, B
     }
     let seconds = body.word(little)?;
     let fraction = body.word(little)?;
-    let ticks = u64::from(seconds) * 0x1_0000_0000 + u64::from(fraction);
+    let ticks = u64::from(seconds) * TICKS_OF_A_SECOND + u64::from(fraction);
     Ok(Sub::InfoTs(Some(Ticks(ticks))))
 }
 

@@ -7,7 +7,7 @@ ghost use Rattle.rtps_submsg.specs.SetSteps.{words_at, base_at, set_at};
 
 use crate::field::{Body, Broken};
 use crate::sub::SubKind;
-use dur_base::{Bits, Number, u32_of};
+use dur_base::{Bits, GREATEST_NUMBER, Number, u32_of};
 
 /// The highest `bits` bits of a word.
 #[tactic(auto, unfolding(crate::specs::Sets::clipped))]
@@ -88,7 +88,7 @@ impl<'a> Body<'a> {
         if base == 0 && is_ack {
             return Ok(base);
         }
-        if base == 0 || base >= 0x8000_0000_0000_0000 {
+        if base == 0 || base > GREATEST_NUMBER {
             return Err(bad);
         }
         Ok(base)
