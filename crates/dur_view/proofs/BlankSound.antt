@@ -68,6 +68,7 @@ sound-lines plan good =
       sets_open = always-first (λ w. is_open_set w.next w.held) (λ w. refl) ws;
       quiet = refl;
       early = and-both (list_all (λ w. list_all (λ x. nat_le x.moment 0) w.held) (map first_line ws)) true early refl;
+      arrived_early = refl;
       keys = refl;
       numbers_rise = refl;
       numbers_below = refl;

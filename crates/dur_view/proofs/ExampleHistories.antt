@@ -1,5 +1,5 @@
 -- What the computed examples are made of: one topic, one writer, two keys, and entries with little in them.
-use Rattle.std.specs.Prelude.{ℕ, Option, None, is_some, List, [], ◌∷◌, ◌++◌, map, replicate}
+use Rattle.std.specs.Prelude.{ℕ, Option, Some, None, is_some, List, [], ◌∷◌, ◌++◌, map, replicate}
 use Rattle.dur_view.specs.Identities.{Guid, Key}
 use Rattle.dur_base.specs.declared.sample.Act.{Act}
 use Rattle.dur_base.specs.declared.sample.Act.TheVariants.{Write}
@@ -84,5 +84,6 @@ start_of topic quiet registered changes kept =
       kept = kept;
     }
 
+-- a kept write of aa, which arrived at the moment of its stamp
 abbrev pub kept_write : ℕ → ℕ → ℕ → Kept
-kept_write ordinal n stamp = record { instance = 0; ordinal = ordinal; writer = writer; number = n; sample = sample aa Write stamp None NoSet }
+kept_write ordinal n stamp = record { instance = 0; ordinal = ordinal; writer = writer; number = n; arrived = Some stamp; sample = sample aa Write stamp None NoSet }

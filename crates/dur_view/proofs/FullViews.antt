@@ -16,7 +16,7 @@ use Rattle.dur_view.specs.declared.data.Instance.{Instance}
 use Rattle.dur_view.specs.declared.data.Kept.{Kept}
 use Rattle.dur_view.specs.declared.data.View.{View}
 use Rattle.dur_view.specs.Words.{is_same, writer_line, stands, topic_of, place_in}
-use Rattle.dur_view.specs.History.{History, Start, ◌▸◌, start, next, next_by, held, held_by, writer_of, brings, brings_to, Event}
+use Rattle.dur_view.specs.History.{History, Start, ◌▸◌, start, next, next_by, held, held_by, writer_of, brings, brings_to, TopicEvent}
 use Rattle.dur_view.specs.Past.{Past, Begin, ◌▹▹◌, Part, past, part, made_of, is_kept_of, no_topic}
 use Rattle.dur_view.specs.IsSound.{IsSound, IsHistory}
 use Rattle.dur_view.specs.View.{view, line_after, lines_at, kept_of, instances_upto, kept_upto}
@@ -84,7 +84,7 @@ past-stays : (plan : Plan) (t : ℕ) (h : History) → IsHistory h → t < lengt
 past-stays plan t (Start v) sound lt = ap (λ v. Begin v) (part-stays plan v t lt)
 past-stays plan t (h ▸ e) follow lt =
     ap (λ p. p ▹▹ brings_to t (filled plan h) e) (past-stays plan t h follow.0 lt)
-    ∙ ap (λ (l : List Event). past t h ▹▹ l) (brings-stays plan t h e follow.1.known)
+    ∙ ap (λ (l : List TopicEvent). past t h ▹▹ l) (brings-stays plan t h e follow.1.known)
 
 pub sound-of : (h : History) → IsHistory h → IsSound (start h)
 sound-of (Start v) sound = sound
@@ -150,7 +150,7 @@ past-above plan t (Start v) sound le =
     ap (λ (l : List Instance). Begin record { settings = s; lines = l; kept = map made_of (filter (is_kept_of v t) v.kept) }) lines
     ∙ ap (λ (l : List Kept). Begin record { settings = s; lines = []; kept = map made_of l }) kept
 past-above plan t (h ▸ e) follow le =
-    ap (λ (l : List Event). past t (filled plan h) ▹▹ l) (brings-none plan t h e (sound-of h follow.0) le follow.1.known) ∙ past-above plan t h follow.0 le
+    ap (λ (l : List TopicEvent). past t (filled plan h) ▹▹ l) (brings-none plan t h e (sound-of h follow.0) le follow.1.known) ∙ past-above plan t h follow.0 le
 
 lines-above-none : (plan : Plan) (t m : ℕ) (h : History) → IsHistory h → length (start h).topics ≤ t → lines_at t (past t (filled plan h)) m ≡ []
 lines-above-none plan t m h follow le = ap (λ p. lines_at t p m) (past-above plan t h follow le)

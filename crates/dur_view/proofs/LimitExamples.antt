@@ -1,5 +1,5 @@
--- Computed: what is refused, by which limit, and what is asked for again (DDS 2.2.3.19).
-use Rattle.std.specs.Prelude.{◌≡◌, false, ◌==◌, Some, None, [], ◌∷◌, length, refl}
+-- Computed: what is refused, and by which limit (DDS 2.2.3.19).
+use Rattle.std.specs.Prelude.{◌≡◌, Some, None, [], ◌∷◌, refl}
 use Rattle.dur_base.specs.declared.sample.Act.TheVariants.{Dispose, Unregister, DisposeUnregister}
 use Rattle.dur_base.specs.declared.entry.Entry.TheVariants.{Skip, Lost}
 use Rattle.dur_qos.specs.declared.plan.Topic.{Topic}
@@ -7,7 +7,6 @@ use Rattle.dur_view.specs.History.{History, Start, ◌▸◌, next}
 use Rattle.dur_view.specs.Past.{past}
 use Rattle.dur_view.specs.Fates.{quiet_since}
 use Rattle.dur_view.specs.Refused.{refused, Instances, PerInstance, Samples, Held}
-use Rattle.dur_view.specs.Nack.{asked, count_to}
 use Rattle.dur_view.proofs.ExampleHistories.{one_second, writer, aa, bb, of_depth, begin, wrote, acted, wrote_for, wrote_in, shown, start_of, kept_write}
 
 -- ---- max_samples 2, all kept: two samples of aa, the first with a lifespan of 1 s
@@ -21,12 +20,9 @@ limited = begin two_samples ▸ wrote_for 0 1 aa (Some one_second) ▸ wrote 0 2
 third-is-refused : refused limited (wrote 0 3 aa) ≡ Some Samples
 third-is-refused = refl
 
--- so that its number stays next, and is asked for;
+-- so that its number stays next;
 refused-number-stays-next : next limited writer ≡ 3
 refused-number-stays-next = refl
-
-refused-number-is-asked : asked (λ k. false) (next limited writer) (next limited writer) 3 ≡ 3 ∷ []
-refused-number-is-asked = refl
 
 -- once the first has expired it is admitted, and 2 and 3 are listed.
 third-after-expiry : refused limited (wrote one_second 3 aa) ≡ None
@@ -94,12 +90,12 @@ one_held = record (of_depth (Some 10)) { max_held = Some 1 }
 abbrev holding : History
 holding = begin one_held ▸ wrote_in 1 5 1
 
--- Number 2 is refused, 2 is next and asked for, and nothing is listed.
+-- Number 2 is refused and stays next, and nothing is listed.
 held-members-are-limited : refused holding (wrote_in 1 5 2) ≡ Some Held
 held-members-are-limited = refl
 
-refused-member-is-asked : asked (λ k. false) (next holding writer) (next holding writer) 2 ≡ 2 ∷ []
-refused-member-is-asked = refl
+refused-member-stays-next : next holding writer ≡ 2
+refused-member-stays-next = refl
 
 held-is-not-listed : shown holding 6 ≡ []
 held-is-not-listed = refl
@@ -131,19 +127,3 @@ skip-above-the-limit = refl
 
 loss-above-the-limit : refused above_limit (Lost 5 writer) ≡ None
 loss-above-the-limit = refl
-
--- ---- what is asked for
--- 1 and 3 are known: 2 is asked for.
-asks-what-is-missing : asked (λ k. k == 3) 2 2 3 ≡ 2 ∷ []
-asks-what-is-missing = refl
-
--- 256 is known and 257 is beyond the window: 1 to 255 are asked for, by 255 bits.
-asks-for-all-below : length (asked (λ k. k == 256) 1 1 257) ≡ 255
-asks-for-all-below = refl
-
-count-reaches-the-last-asked : count_to 1 (asked (λ k. k == 256) 1 1 257) ≡ 255
-count-reaches-the-last-asked = refl
-
--- Nothing is missing: the count is 0.
-counts-none : count_to 4 (asked (λ k. false) 4 4 3) ≡ 0
-counts-none = refl

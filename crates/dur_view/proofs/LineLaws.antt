@@ -3,7 +3,7 @@ use Rattle.std.proofs.Common.{◌≡◌, ℕ, ◌+◌, ◌*◌, ◌^◌, ◌≤�
 use Rattle.std.proofs.lemmas.List.{take_more}
 use Rattle.dur_view.specs.Identities.{Key}
 use Rattle.dur_view.specs.declared.line.Line.{Line}
-use Rattle.dur_view.specs.History.{Event, Effect, Gone}
+use Rattle.dur_view.specs.History.{TopicEvent, Effect, Gone}
 use Rattle.dur_view.specs.Past.{Made, Past, ◌▹◌, ◌▹▹◌}
 use Rattle.std.specs.Prelude.{nat_le}
 use Rattle.dur_qos.specs.declared.plan.Topic.{Topic}
@@ -12,25 +12,25 @@ use Rattle.dur_view.specs.Lines.{line_after_event, line_in_past}
 use Rattle.dur_view.proofs.SameEffects.{add_append}
 use Rattle.dur_view.proofs.Parts.{settings-extend}
 
-step-at : (p : Past) (e : Event) (k : Key) → line_in_past (p ▹ e) k ≡ line_after_event e k (delay p) (line_in_past p k)
-step-at p (Effect m by w n s) k = refl
+step-at : (p : Past) (e : TopicEvent) (k : Key) → line_in_past (p ▹ e) k ≡ line_after_event e k (delay p) (line_in_past p k)
+step-at p (Effect m by w n a s) k = refl
 step-at p (Gone m by) k = refl
 
-pub line-step : (p : Past) (e : Event) (k : Key) (n : ℕ) → delay p ≡ n → line_in_past (p ▹ e) k ≡ line_after_event e k n (line_in_past p k)
+pub line-step : (p : Past) (e : TopicEvent) (k : Key) (n : ℕ) → delay p ≡ n → line_in_past (p ▹ e) k ≡ line_after_event e k n (line_in_past p k)
 line-step p e k n is = step-at p e k ∙ ap (λ d. line_after_event e k d (line_in_past p k)) is
 
-pub past-more : (p : Past) (es : List Event) (i : ℕ) (e : Event) → i < length es → e ≡ get_or es i e → p ▹▹ take (i + 1) es ≡ (p ▹▹ take i es) ▹ e
+pub past-more : (p : Past) (es : List TopicEvent) (i : ℕ) (e : TopicEvent) → i < length es → e ≡ get_or es i e → p ▹▹ take (i + 1) es ≡ (p ▹▹ take i es) ▹ e
 past-more p es i e lt is =
     ap (λ l. p ▹▹ l) (take_more es i e lt) ∙ add_append p (take i es) (get_or es i e ∷ []) ∙ ap (λ y. (p ▹▹ take i es) ▹ y) (sym is)
 
-pub delay-extend : (p : Past) (es : List Event) → delay (p ▹▹ es) ≡ delay p
+pub delay-extend : (p : Past) (es : List TopicEvent) → delay (p ▹▹ es) ≡ delay p
 delay-extend p es = ap (λ t. t.delay * 2 ^ 32) (settings-extend p es)
 
 changes-at : (b : Bool) (n : ℕ) → cond b (n + 1) n ≤ n + 1
 changes-at true n = omega arith
 changes-at false n = omega arith
 
-pub changes-after : (e : Event) (k : Key) (n : ℕ) (l : Line) → (line_after_event e k n l).changes ≤ l.changes + 1
+pub changes-after : (e : TopicEvent) (k : Key) (n : ℕ) (l : Line) → (line_after_event e k n l).changes ≤ l.changes + 1
 changes-after e k n l = changes-at (is_of k e) l.changes
 
 -- a change's fates, told by its instance's line

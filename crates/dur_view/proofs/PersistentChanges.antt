@@ -1,12 +1,12 @@
 -- A past with other places has the same changes and instances, and the same of them are there.
-use Rattle.std.proofs.Common.{◌≡◌, ℕ, ◌+◌, ◌-◌, ◌*◌, ◌^◌, Bool, cond, not, ◌&&◌, ◌||◌, List, [], ◌∷◌, ◌++◌, map, refl, ap, ◌∙◌}
+use Rattle.std.proofs.Common.{◌≡◌, ℕ, ◌+◌, ◌-◌, ◌*◌, ◌^◌, Bool, Some, cond, not, ◌&&◌, ◌||◌, List, [], ◌∷◌, ◌++◌, map, refl, ap, ◌∙◌}
 use mathlib.Core.Path.{fun_ext}
 use Rattle.std.specs.Prelude.{filter, is_some, nat_le, find, count_by}
 use Rattle.dur_view.specs.Identities.{Key}
 use Rattle.dur_qos.specs.declared.plan.Topic.{Topic}
 use Rattle.dur_view.specs.declared.data.Instance.{Instance}
 use Rattle.dur_view.specs.Words.{is_change}
-use Rattle.dur_view.specs.History.{Event, Effect, Gone}
+use Rattle.dur_view.specs.History.{TopicEvent, Effect, Gone}
 use Rattle.dur_view.specs.Past.{Made, Past, Begin, ◌▹◌}
 use Rattle.dur_view.specs.Fates.{settings, delay, line_in, time_of, is_of, count, quiet_since, is_long, is_purged, purged_upto, was_born, exists, made_by, made, is_expired, reaches, has_fate, living, keys_by, keys, existing}
 use Rattle.dur_view.specs.View.{line_of, lines_at, changes_of, counted, is_made_of}
@@ -43,8 +43,8 @@ line-keys : (up f : ℕ → ℕ) (lines : List Instance) → map (λ line. line.
 line-keys up f [] = refl
 line-keys up f (line ∷ lines) = ap (λ (l : List Key). line.key ∷ l) (line-keys up f lines)
 
-keys_by-with : (f : ℕ → ℕ) (e : Event) (before : List Key) → keys_by (event_with f e) before ≡ keys_by e before
-keys_by-with f (Effect m by w n s) before = refl
+keys_by-with : (f : ℕ → ℕ) (e : TopicEvent) (before : List Key) → keys_by (event_with f e) before ≡ keys_by e before
+keys_by-with f (Effect m by w n a s) before = refl
 keys_by-with f (Gone m by) before = refl
 
 keys-with : (up f : ℕ → ℕ) (p : Past) → keys (past_with up f p) ≡ keys p
@@ -55,9 +55,9 @@ pub existing-with : (passes : ℕ → Bool) (up f : ℕ → ℕ) (p : Past) (now
 existing-with passes up f p now keeps placed =
     ap (filter (λ k. exists (past_with up f p) k now)) (keys-with up f p) ∙ ap (λ (t : Key → Bool). filter t (keys p)) (fun_ext (λ k. exists-with passes up f p k now keeps placed))
 
-made_by-with : (up f : ℕ → ℕ) (p : Past) (e : Event) → made_by (past_with up f p) (event_with f e) ≡ made_by p e
-made_by-with up f p (Effect m by w n s) =
-    ap (λ c. cond (is_change s.act) (record { ordinal = c + 1; writer = w; number = n; sample = s } ∷ []) []) (count-with up f p s.key)
+made_by-with : (up f : ℕ → ℕ) (p : Past) (e : TopicEvent) → made_by (past_with up f p) (event_with f e) ≡ made_by p e
+made_by-with up f p (Effect m by w n a s) =
+    ap (λ c. cond (is_change s.act) (record { ordinal = c + 1; writer = w; number = n; arrived = Some a; sample = s } ∷ []) []) (count-with up f p s.key)
 made_by-with up f p (Gone m by) = refl
 
 made-with : (up f : ℕ → ℕ) (p : Past) → made (past_with up f p) ≡ made p

@@ -8,7 +8,7 @@ use Rattle.dur_base.specs.declared.sample.Act.TheVariants.{Write, Dispose, Unreg
 use Rattle.dur_view.specs.Identities.{Key}
 use Rattle.dur_view.specs.declared.data.Instance.{Instance}
 use Rattle.dur_view.specs.Words.{is_key}
-use Rattle.dur_view.specs.History.{Event, Effect, Gone}
+use Rattle.dur_view.specs.History.{TopicEvent, Effect, Gone}
 use Rattle.dur_view.specs.Past.{Past, Begin, ◌▹◌}
 use Rattle.dur_view.specs.Fates.{settings, line_in, time_of, is_of, count, disposes_by, disposed, with_place, without, registered_by, registered, is_nobody, is_quiet, quiet_since}
 use Rattle.dur_view.proofs.SoundWriterLaws.{and-both}
@@ -19,8 +19,8 @@ pub record KeepsOrder (passes : ℕ → Bool) (f : ℕ → ℕ) : Type 0 where
   pub less : (i j : ℕ) → passes i ≡ true → passes j ≡ true → nat_lt (f i) (f j) ≡ nat_lt i j
   pub same : (i j : ℕ) → passes i ≡ true → passes j ≡ true → (f i == f j) ≡ (i == j)
 
-abbrev pub place_by : Event → ℕ
-place_by (Effect m by w n s) = by
+abbrev pub place_by : TopicEvent → ℕ
+place_by (Effect m by w n a s) = by
 place_by (Gone m by) = by
 
 -- all places of a past pass
@@ -60,7 +60,7 @@ all-cond passes false xs ys a c = c
 
 all-placed : (passes : ℕ → Bool) (p : Past) (k : Key) → Placed passes p → list_all passes (registered p k) ≡ true
 all-placed passes (Begin v) k placed = placed k
-all-placed passes (p ▹ Effect m by w n s) k placed =
+all-placed passes (p ▹ Effect m by w n a s) k placed =
     all-cond passes (is_key s.key k) (registered_by s.act by (registered p k)) (registered p k) (all-by passes s.act by (registered p k) placed.1 (all-placed passes p k placed.0)) (all-placed passes p k placed.0)
 all-placed passes (p ▹ Gone m by) k placed = all-without passes by (registered p k) (all-placed passes p k placed.0)
 
@@ -137,16 +137,16 @@ pub settings-with : (up f : ℕ → ℕ) (p : Past) → settings (past_with up f
 settings-with up f (Begin v) = refl
 settings-with up f (p ▹ e) = settings-with up f p
 
-pub is_of-with : (f : ℕ → ℕ) (k : Key) (e : Event) → is_of k (event_with f e) ≡ is_of k e
-is_of-with f k (Effect m by w n s) = refl
+pub is_of-with : (f : ℕ → ℕ) (k : Key) (e : TopicEvent) → is_of k (event_with f e) ≡ is_of k e
+is_of-with f k (Effect m by w n a s) = refl
 is_of-with f k (Gone m by) = refl
 
-pub time-with : (f : ℕ → ℕ) (e : Event) → time_of (event_with f e) ≡ time_of e
-time-with f (Effect m by w n s) = refl
+pub time-with : (f : ℕ → ℕ) (e : TopicEvent) → time_of (event_with f e) ≡ time_of e
+time-with f (Effect m by w n a s) = refl
 time-with f (Gone m by) = refl
 
-disposes-with : (f : ℕ → ℕ) (e : Event) → disposes_by (event_with f e) ≡ disposes_by e
-disposes-with f (Effect m by w n s) = refl
+disposes-with : (f : ℕ → ℕ) (e : TopicEvent) → disposes_by (event_with f e) ≡ disposes_by e
+disposes-with f (Effect m by w n a s) = refl
 disposes-with f (Gone m by) = refl
 
 pub count-with : (up f : ℕ → ℕ) (p : Past) (k : Key) → count (past_with up f p) k ≡ count p k
@@ -162,7 +162,7 @@ disposed-with up f (p ▹ e) k =
 
 pub registered-with : (passes : ℕ → Bool) (up f : ℕ → ℕ) (p : Past) (k : Key) → KeepsOrder passes f → Placed passes p → registered (past_with up f p) k ≡ map f (registered p k)
 registered-with passes up f (Begin v) k keeps placed = ap (λ (o : Option Instance). unwrap_or (option_map (λ line. line.registered) o) []) (line-in up f v.lines k) ∙ registered-at up f (line_in v.lines k)
-registered-with passes up f (p ▹ Effect m by w n s) k keeps placed =
+registered-with passes up f (p ▹ Effect m by w n a s) k keeps placed =
     let before = registered-with passes up f p k keeps placed.0 in
     ap (λ (l : List ℕ). cond (is_key s.key k) (registered_by s.act (f by) l) l) before
     ∙ ap (λ (l : List ℕ). cond (is_key s.key k) l (map f (registered p k))) (by-renamed passes f s.act by (registered p k) keeps placed.1 (all-placed passes p k placed.0))

@@ -15,7 +15,7 @@ use Rattle.dur_view.specs.declared.data.Instance.{Instance}
 use Rattle.dur_view.specs.declared.data.Kept.{Kept}
 use Rattle.dur_view.specs.declared.data.View.{View}
 use Rattle.dur_view.specs.Words.{topic_of, place_in}
-use Rattle.dur_view.specs.History.{History, Start, ◌▸◌, start, held, writer_of, goes_on, itself, brings, brings_to, Event, Effect, Gone}
+use Rattle.dur_view.specs.History.{History, Start, ◌▸◌, start, held, writer_of, goes_on, itself, brings, brings_to, TopicEvent, Effect, Gone}
 use Rattle.dur_view.specs.Past.{Made, Past, Begin, ◌▹◌, ◌▹▹◌, past, part, made_of, is_kept_of, no_topic}
 use Rattle.dur_view.specs.IsSound.{IsHistory}
 use Rattle.dur_view.specs.Persistent.{is_persistent, passes_at, place_among, writer_stays, instance_stays, instance_among, kept_stays, kept_among, persistent_view, persistent}
@@ -24,8 +24,8 @@ use Rattle.dur_view.proofs.PersistentPlaces.{among-same, get-among}
 use Rattle.dur_view.proofs.PersistentWriters.{start-persistent, in_persistent, topic-persistent, place-persistent, held-persistent}
 
 -- an event, a line and a past with other places of writers and of topics
-abbrev pub event_with : (ℕ → ℕ) → Event → Event
-event_with f (Effect m by w n s) = Effect m (f by) w n s
+abbrev pub event_with : (ℕ → ℕ) → TopicEvent → TopicEvent
+event_with f (Effect m by w n a s) = Effect m (f by) w n a s
 event_with f (Gone m by) = Gone m (f by)
 
 abbrev pub line_with : (ℕ → ℕ) → (ℕ → ℕ) → Instance → Instance
@@ -35,17 +35,17 @@ abbrev pub past_with : (ℕ → ℕ) → (ℕ → ℕ) → Past → Past
 past_with up f (Begin v) = Begin record { settings = v.settings; lines = map (line_with up f) v.lines; kept = v.kept }
 past_with up f (p ▹ e) = past_with up f p ▹ event_with f e
 
-extend-with : (up f : ℕ → ℕ) (p : Past) (es : List Event) → past_with up f p ▹▹ map (event_with f) es ≡ past_with up f (p ▹▹ es)
+extend-with : (up f : ℕ → ℕ) (p : Past) (es : List TopicEvent) → past_with up f p ▹▹ map (event_with f) es ≡ past_with up f (p ▹▹ es)
 extend-with up f p [] = refl
 extend-with up f p (e ∷ es) = extend-with up f (p ▹ e) es
 
 -- what an entry brings
-members-with : (f : ℕ → ℕ) (m by : ℕ) (w : Guid) (members : List Held) → map (λ x. Effect m (f by) w x.number x.sample) members ≡ map (event_with f) (map (λ x. Effect m by w x.number x.sample) members)
+members-with : (f : ℕ → ℕ) (m by : ℕ) (w : Guid) (members : List Held) → map (λ x. Effect m (f by) w x.number x.moment x.sample) members ≡ map (event_with f) (map (λ x. Effect m by w x.number x.moment x.sample) members)
 members-with f m by w [] = refl
-members-with f m by w (x ∷ members) = ap (λ (l : List Event). Effect m (f by) w x.number x.sample ∷ l) (members-with f m by w members)
+members-with f m by w (x ∷ members) = ap (λ (l : List TopicEvent). Effect m (f by) w x.number x.moment x.sample ∷ l) (members-with f m by w members)
 
 closed-with : (f : ℕ → ℕ) (m by : ℕ) (w : Guid) (members : List Held) (b : Bool)
-    → cond b [] (map (λ x. Effect m (f by) w x.number x.sample) members) ≡ map (event_with f) (cond b [] (map (λ x. Effect m by w x.number x.sample) members))
+    → cond b [] (map (λ x. Effect m (f by) w x.number x.moment x.sample) members) ≡ map (event_with f) (cond b [] (map (λ x. Effect m by w x.number x.moment x.sample) members))
 closed-with f m by w members true = refl
 closed-with f m by w members false = members-with f m by w members
 
@@ -56,14 +56,14 @@ itself-with f m by w n s (Of g) = refl
 
 brings-with : (f : ℕ → ℕ) (by : ℕ) (members : List Held) (e : Entry) → brings (f by) members e ≡ map (event_with f) (brings by members e)
 brings-with f by members (Took m w n s) =
-    let closed : List Event = cond (goes_on s.set members) [] (map (λ x. Effect m by w x.number x.sample) members) in
-    ap (λ (l : List Event). l ++ itself m (f by) w n s s.set) (closed-with f m by w members (goes_on s.set members))
-    ∙ ap (λ (l : List Event). map (event_with f) closed ++ l) (itself-with f m by w n s s.set)
+    let closed : List TopicEvent = cond (goes_on s.set members) [] (map (λ x. Effect m by w x.number x.moment x.sample) members) in
+    ap (λ (l : List TopicEvent). l ++ itself m (f by) w n s s.set) (closed-with f m by w members (goes_on s.set members))
+    ∙ ap (λ (l : List TopicEvent). map (event_with f) closed ++ l) (itself-with f m by w n s s.set)
     ∙ sym (map-append (event_with f) closed (itself m by w n s s.set))
 brings-with f by members (Skip m w from to) = refl
 brings-with f by members (Lost m w) = refl
 
-map-if : (f : Event → Event) (b : Bool) (es : List Event) → cond b (map f es) [] ≡ map f (cond b es [])
+map-if : (f : TopicEvent → TopicEvent) (b : Bool) (es : List TopicEvent) → cond b (map f es) [] ≡ map f (cond b es [])
 map-if f true es = refl
 map-if f false es = refl
 
@@ -89,7 +89,7 @@ brings-persistent h t e follow stay is =
     ap (λ b. if b then brings (place_in (start (persistent h)).writers w) (held (persistent h) w) e else []) same
     ∙ ap (λ p. if topic_of v w == t then brings p (held (persistent h) w) e else []) place
     ∙ ap (λ (l : List Held). if topic_of v w == t then brings (writer_place v (place_in v.writers w)) l e else []) (held-persistent h w is)
-    ∙ ap (λ (l : List Event). if topic_of v w == t then l else []) (brings-with (writer_place v) (place_in v.writers w) (held h w) e)
+    ∙ ap (λ (l : List TopicEvent). if topic_of v w == t then l else []) (brings-with (writer_place v) (place_in v.writers w) (held h w) e)
     ∙ map-if (event_with (writer_place v)) (topic_of v w == t) (brings (place_in v.writers w) (held h w) e)
 
 -- an entry that is left out brings nothing to a persistent topic
@@ -170,11 +170,11 @@ past-at : (h : History) (t : ℕ) (e : Entry) (b : Bool) → in_persistent (star
 past-at h t e true is follow stay before =
     let v = start h in
     ap (λ p. p ▹▹ brings_to (topic_place v t) (persistent h) e) before
-    ∙ ap (λ (l : List Event). past_with (topic_place v) (writer_place v) (past t h) ▹▹ l) (brings-persistent h t e follow stay is)
+    ∙ ap (λ (l : List TopicEvent). past_with (topic_place v) (writer_place v) (past t h) ▹▹ l) (brings-persistent h t e follow stay is)
     ∙ extend-with (topic_place v) (writer_place v) (past t h) (brings_to t h e)
 past-at h t e false is follow stay before =
     let v = start h in
-    before ∙ sym (ap (λ (l : List Event). past_with (topic_place v) (writer_place v) (past t h ▹▹ l)) (brings-none h t e stay is))
+    before ∙ sym (ap (λ (l : List TopicEvent). past_with (topic_place v) (writer_place v) (past t h ▹▹ l)) (brings-none h t e stay is))
 
 pub past-persistent : (h : History) (t : ℕ) → IsHistory h → persistent_topic (start h) t ≡ true → past (topic_place (start h) t) (persistent h) ≡ past_with (topic_place (start h)) (writer_place (start h)) (past t h)
 past-persistent (Start v) t sound stay = part-persistent v t stay

@@ -14,7 +14,7 @@ use Rattle.dur_view.specs.declared.data.Instance.{Instance}
 use Rattle.dur_view.specs.declared.data.KeptWriter.{KeptWriter}
 use Rattle.dur_view.specs.declared.data.View.{View}
 use Rattle.dur_view.specs.Words.{is_key, topic_of, place_in}
-use Rattle.dur_view.specs.History.{History, Start, ◌▸◌, start, held, writer_of, goes_on, itself, brings, brings_to, Event, Effect}
+use Rattle.dur_view.specs.History.{History, Start, ◌▸◌, start, held, writer_of, goes_on, itself, brings, brings_to, TopicEvent, Effect}
 use Rattle.dur_view.specs.Past.{Past, Begin, ◌▹◌, ◌▹▹◌, past, part}
 use Rattle.dur_view.specs.Fates.{line_in}
 use Rattle.dur_view.specs.IsSound.{IsSound, IsHistory}
@@ -68,23 +68,23 @@ placed-start v t sound stay k =
     (λ line found. all-found (λ i. list_all (is_here v i.topic) i.registered) (λ i. is_key i.key k) (part v t).lines line (all-filter (λ i. list_all (is_here v i.topic) i.registered) (λ i. i.topic == t) v.instances sound.registered_here) found)
 
 -- of what an entry brings
-abbrev AllPlaced : (ℕ → Bool) → List Event → Type 0
+abbrev AllPlaced : (ℕ → Bool) → List TopicEvent → Type 0
 AllPlaced passes [] = Unit {0}
 AllPlaced passes (e ∷ es) = (passes (place_by e) ≡ true) × AllPlaced passes es
 
-placed-extend : (passes : ℕ → Bool) (p : Past) (es : List Event) → Placed passes p → AllPlaced passes es → Placed passes (p ▹▹ es)
+placed-extend : (passes : ℕ → Bool) (p : Past) (es : List TopicEvent) → Placed passes p → AllPlaced passes es → Placed passes (p ▹▹ es)
 placed-extend passes p [] placed all = placed
 placed-extend passes p (e ∷ es) placed all = placed-extend passes (p ▹ e) es (placed, all.0) all.1
 
-placed-append : (passes : ℕ → Bool) (xs ys : List Event) → AllPlaced passes xs → AllPlaced passes ys → AllPlaced passes (xs ++ ys)
+placed-append : (passes : ℕ → Bool) (xs ys : List TopicEvent) → AllPlaced passes xs → AllPlaced passes ys → AllPlaced passes (xs ++ ys)
 placed-append passes [] ys a b = b
 placed-append passes (x ∷ xs) ys a b = (a.0, placed-append passes xs ys a.1 b)
 
-placed-members : (passes : ℕ → Bool) (m by : ℕ) (w : Guid) (members : List Held) → passes by ≡ true → AllPlaced passes (map (λ x. Effect m by w x.number x.sample) members)
+placed-members : (passes : ℕ → Bool) (m by : ℕ) (w : Guid) (members : List Held) → passes by ≡ true → AllPlaced passes (map (λ x. Effect m by w x.number x.moment x.sample) members)
 placed-members passes m by w [] is = tt
 placed-members passes m by w (x ∷ members) is = (is, placed-members passes m by w members is)
 
-placed-closed : (passes : ℕ → Bool) (m by : ℕ) (w : Guid) (members : List Held) (b : Bool) → passes by ≡ true → AllPlaced passes (cond b [] (map (λ x. Effect m by w x.number x.sample) members))
+placed-closed : (passes : ℕ → Bool) (m by : ℕ) (w : Guid) (members : List Held) (b : Bool) → passes by ≡ true → AllPlaced passes (cond b [] (map (λ x. Effect m by w x.number x.moment x.sample) members))
 placed-closed passes m by w members true is = tt
 placed-closed passes m by w members false is = placed-members passes m by w members is
 
@@ -98,7 +98,7 @@ placed-brings passes by members (Took m w n s) is = placed-append passes _ _ (pl
 placed-brings passes by members (Skip m w from to) is = tt
 placed-brings passes by members (Lost m w) is = (is, tt)
 
-placed-if : (passes : ℕ → Bool) (es : List Event) (b : Bool) → (b ≡ true → AllPlaced passes es) → AllPlaced passes (cond b es [])
+placed-if : (passes : ℕ → Bool) (es : List TopicEvent) (b : Bool) → (b ≡ true → AllPlaced passes es) → AllPlaced passes (cond b es [])
 placed-if passes es true all = all refl
 placed-if passes es false all = tt
 

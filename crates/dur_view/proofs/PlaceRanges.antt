@@ -17,7 +17,7 @@ use Rattle.dur_view.specs.declared.data.Instance.{Instance}
 use Rattle.dur_view.specs.declared.data.KeptWriter.{KeptWriter}
 use Rattle.dur_view.specs.declared.data.View.{View}
 use Rattle.dur_view.specs.Words.{is_same, is_key, writer_line, place_in, topic_of}
-use Rattle.dur_view.specs.History.{History, Start, ◌▸◌, start, held, writer_of, Event, Effect, Gone, itself, goes_on, brings, brings_to}
+use Rattle.dur_view.specs.History.{History, Start, ◌▸◌, start, held, writer_of, TopicEvent, Effect, Gone, itself, goes_on, brings, brings_to}
 use Rattle.dur_view.specs.Past.{Past, Begin, ◌▹◌, ◌▹▹◌, past, part}
 use Rattle.dur_view.specs.Fates.{line_in, registered, registered_by, with_place}
 use Rattle.dur_view.specs.IsSound.{IsSound, IsHistory}
@@ -49,27 +49,27 @@ below-by n DisposeUnregister i xs lt below = below-filter n (λ x. not (x == i))
 below-by n Marker i xs lt below = below
 
 -- events of writers at such places
-abbrev IsBelow : ℕ → Event → Type 0
-IsBelow n (Effect m by w number s) = by < n
+abbrev IsBelow : ℕ → TopicEvent → Type 0
+IsBelow n (Effect m by w number a s) = by < n
 IsBelow n (Gone m by) = by < n
 
-below-step : (n : ℕ) (p : Past) (e : Event) (k : Key) → IsBelow n e → Below n (registered p k) → Below n (registered (p ▹ e) k)
-below-step n p (Effect m by w number s) k lt below = below-cond n (is_key s.key k) (registered_by s.act by (registered p k)) (registered p k) (below-by n s.act by (registered p k) lt below) below
+below-step : (n : ℕ) (p : Past) (e : TopicEvent) (k : Key) → IsBelow n e → Below n (registered p k) → Below n (registered (p ▹ e) k)
+below-step n p (Effect m by w number a s) k lt below = below-cond n (is_key s.key k) (registered_by s.act by (registered p k)) (registered p k) (below-by n s.act by (registered p k) lt below) below
 below-step n p (Gone m by) k lt below = below-filter n (λ x. not (x == by)) (registered p k) below
 
-below-extend : (n : ℕ) (p : Past) (es : List Event) (k : Key) → AllByRecursion (IsBelow n) es → Below n (registered p k) → Below n (registered (p ▹▹ es) k)
+below-extend : (n : ℕ) (p : Past) (es : List TopicEvent) (k : Key) → AllByRecursion (IsBelow n) es → Below n (registered p k) → Below n (registered (p ▹▹ es) k)
 below-extend n p [] k all below = below
 below-extend n p (e ∷ es) k all below = below-extend n (p ▹ e) es k all.1 (below-step n p e k all.0 below)
 
-members-below : (n m by : ℕ) (w : Guid) (members : List Held) → by < n → AllByRecursion (IsBelow n) (map (λ x. Effect m by w x.number x.sample) members)
+members-below : (n m by : ℕ) (w : Guid) (members : List Held) → by < n → AllByRecursion (IsBelow n) (map (λ x. Effect m by w x.number x.moment x.sample) members)
 members-below n m by w [] lt = tt
 members-below n m by w (x ∷ members) lt = (lt, members-below n m by w members lt)
 
-events-append : (n : ℕ) (xs ys : List Event) → AllByRecursion (IsBelow n) xs → AllByRecursion (IsBelow n) ys → AllByRecursion (IsBelow n) (xs ++ ys)
+events-append : (n : ℕ) (xs ys : List TopicEvent) → AllByRecursion (IsBelow n) xs → AllByRecursion (IsBelow n) ys → AllByRecursion (IsBelow n) (xs ++ ys)
 events-append n [] ys a b = b
 events-append n (x ∷ xs) ys a b = (a.0, events-append n xs ys a.1 b)
 
-events-cond : (n : ℕ) (b : Bool) (xs ys : List Event) → (b ≡ true → AllByRecursion (IsBelow n) xs) → AllByRecursion (IsBelow n) ys → AllByRecursion (IsBelow n) (cond b xs ys)
+events-cond : (n : ℕ) (b : Bool) (xs ys : List TopicEvent) → (b ≡ true → AllByRecursion (IsBelow n) xs) → AllByRecursion (IsBelow n) ys → AllByRecursion (IsBelow n) (cond b xs ys)
 events-cond n true xs ys a c = a refl
 events-cond n false xs ys a c = c
 

@@ -80,7 +80,7 @@ nothing-persistent = refl
 
 -- What is sent says who wrote it first.
 sent-with-its-original : snap (past 0 (begin (of_depth (Some 1)) ▸ wrote 5 1 aa)) 5
-    ≡ record { original = writer; number = 1; sample = record (sample aa Write 5 None NoSet) { original = Some (writer, 1) } } ∷ []
+    ≡ record { original = writer; number = 1; writer = writer; sample = record (sample aa Write 5 None NoSet) { original = Some (writer, 1) } } ∷ []
 sent-with-its-original = refl
 
 -- The view keeps the sample as it came.

@@ -8,7 +8,7 @@ use Rattle.dur_view.specs.declared.data.Held.{Held}
 use Rattle.dur_view.specs.declared.data.KeptWriter.{KeptWriter}
 use Rattle.dur_view.specs.declared.data.Instance.{Instance}
 use Rattle.dur_view.specs.Words.{is_key}
-use Rattle.dur_view.specs.History.{History, Start, ◌▸◌, moment, moment_of, brings_to, Event}
+use Rattle.dur_view.specs.History.{History, Start, ◌▸◌, moment, moment_of, brings_to, TopicEvent}
 use Rattle.dur_view.specs.Past.{Past, ◌▹◌, ◌▹▹◌, past, part}
 use Rattle.dur_view.specs.Fates.{line_in, is_of, time_of, is_quiet, quiet_since}
 use Rattle.dur_view.specs.IsSound.{IsHistory, at_most}
@@ -24,10 +24,10 @@ began-at true true since now m is le = le
 began-at true false since now m is le = omega arith
 began-at false goes since now m is le = omega arith
 
-began-step : (p : Past) (e : Event) (k : Key) (m : ℕ) → time_of e ≡ m → began p k ≤ m → began (p ▹ e) k ≤ m
+began-step : (p : Past) (e : TopicEvent) (k : Key) (m : ℕ) → time_of e ≡ m → began p k ≤ m → began (p ▹ e) k ≤ m
 began-step p e k m is le = began-at (is_quiet (p ▹ e) k) (not (is_of k e) && is_quiet p k) (quiet_since p k) (time_of e) m is le
 
-began-extend : (p : Past) (es : List Event) (k : Key) (m : ℕ) → EachEvent (λ e. time_of e ≡ m) es → began p k ≤ m → began (p ▹▹ es) k ≤ m
+began-extend : (p : Past) (es : List TopicEvent) (k : Key) (m : ℕ) → EachEvent (λ e. time_of e ≡ m) es → began p k ≤ m → began (p ▹▹ es) k ≤ m
 began-extend p [] k m each le = le
 began-extend p (e ∷ es) k m each le = began-extend (p ▹ e) es k m each.1 (began-step p e k m each.0 le)
 
@@ -44,4 +44,4 @@ began-past t (Start v) k sound =
 began-past t (h ▸ e) k follow =
     let before = began-past t h k follow.0 in
     let later = follow.1.later in
-    began-extend (past t h) (brings_to t h e) k (moment_of e) (each-brings_to (λ x. time_of x ≡ moment_of e) t h e (λ here n s. refl) (λ here. refl)) (omega arith)
+    began-extend (past t h) (brings_to t h e) k (moment_of e) (each-brings_to (λ x. time_of x ≡ moment_of e) t h e (λ here n a s. refl) (λ here. refl)) (omega arith)

@@ -9,7 +9,7 @@ use Rattle.dur_view.specs.Identities.{Guid, Key}
 use Rattle.dur_view.specs.declared.data.Instance.{Instance}
 use Rattle.dur_view.specs.declared.data.KeptWriter.{KeptWriter}
 use Rattle.dur_view.specs.Words.{is_same, is_key, writer_line, topic_of, place_in}
-use Rattle.dur_view.specs.History.{History, Start, ◌▸◌, start, writer_of, brings_to, Event, Effect, Gone}
+use Rattle.dur_view.specs.History.{History, Start, ◌▸◌, start, writer_of, brings_to, TopicEvent, Effect, Gone}
 use Rattle.dur_view.specs.Past.{Past, ◌▹◌, ◌▹▹◌, past, part}
 use Rattle.dur_view.specs.Fates.{line_in, registered, registered_by, with_place}
 use Rattle.dur_view.specs.IsSound.{IsHistory}
@@ -63,15 +63,15 @@ all-cond test true xs ys a c = a
 all-cond test false xs ys a c = c
 
 -- ---- along the events
-abbrev place_by : Event → ℕ
-place_by (Effect m by w n s) = by
+abbrev place_by : TopicEvent → ℕ
+place_by (Effect m by w n a s) = by
 place_by (Gone m by) = by
 
-all-step : (test : ℕ → Bool) (p : Past) (e : Event) (k : Key) → test (place_by e) ≡ true → list_all test (registered p k) ≡ true → list_all test (registered (p ▹ e) k) ≡ true
-all-step test p (Effect m by w n s) k one all = all-cond test (is_key s.key k) (registered_by s.act by (registered p k)) (registered p k) (all-by test s.act by (registered p k) one all) all
+all-step : (test : ℕ → Bool) (p : Past) (e : TopicEvent) (k : Key) → test (place_by e) ≡ true → list_all test (registered p k) ≡ true → list_all test (registered (p ▹ e) k) ≡ true
+all-step test p (Effect m by w n a s) k one all = all-cond test (is_key s.key k) (registered_by s.act by (registered p k)) (registered p k) (all-by test s.act by (registered p k) one all) all
 all-step test p (Gone m by) k one all = all-keep test (λ x. not (x == by)) (registered p k) all
 
-all-extend : (test : ℕ → Bool) (p : Past) (es : List Event) (k : Key) → EachEvent (λ e. test (place_by e) ≡ true) es → list_all test (registered p k) ≡ true → list_all test (registered (p ▹▹ es) k) ≡ true
+all-extend : (test : ℕ → Bool) (p : Past) (es : List TopicEvent) (k : Key) → EachEvent (λ e. test (place_by e) ≡ true) es → list_all test (registered p k) ≡ true → list_all test (registered (p ▹▹ es) k) ≡ true
 all-extend test p [] k each all = all
 all-extend test p (e ∷ es) k each all = all-extend test (p ▹ e) es k each.1 (all-step test p e k each.0 all)
 
@@ -102,7 +102,7 @@ here-past t (Start v) k sound =
 here-past t (h ▸ e) k follow =
     let test = is_here (start h).writers t in
     let place = λ (is : (topic_of (start h) (writer_of e) == t) ≡ true). here-place t (start h).writers (writer_of e) follow.1.known is in
-    all-extend test (past t h) (brings_to t h e) k (each-brings_to (λ x. test (place_by x) ≡ true) t h e (λ is n s. place is) (λ is. place is)) (here-past t h k follow.0)
+    all-extend test (past t h) (brings_to t h e) k (each-brings_to (λ x. test (place_by x) ≡ true) t h e (λ is n a s. place is) (λ is. place is)) (here-past t h k follow.0)
 
 -- ---- as the view's writers say
 pub here-lines : (h : History) (ws : List KeptWriter) (t r : ℕ) → is_here (map (line_after h) ws) t r ≡ is_here ws t r

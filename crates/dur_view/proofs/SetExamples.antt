@@ -1,12 +1,13 @@
 -- Computed: coherent sets that are open, whole, broken, and what strays have (DDS 2.2.3.6).
-use Rattle.std.specs.Prelude.{◌≡◌, ℕ, Some, None, List, [], ◌∷◌, map, refl}
+use Rattle.std.specs.Prelude.{◌≡◌, ℕ, Option, Some, None, List, [], ◌∷◌, map, refl}
 use Rattle.dur_base.specs.declared.sample.Act.TheVariants.{Write}
 use Rattle.dur_base.specs.declared.sample.SetMark.TheVariants.{End}
 use Rattle.dur_base.specs.declared.entry.Entry.TheVariants.{Skip, Lost}
 use Rattle.dur_view.specs.History.{History, Start, ◌▸◌, next, held, brings_to}
+use Rattle.dur_view.specs.declared.data.View.{View}
 use Rattle.dur_view.specs.SetsBack.{back}
 use Rattle.dur_view.specs.View.{view}
-use Rattle.dur_view.proofs.ExampleHistories.{writer, aa, of_depth, begin, took, wrote, wrote_in, shown}
+use Rattle.dur_view.proofs.ExampleHistories.{writer, aa, of_depth, begin, took, wrote, wrote_in, shown, start_of, kept_write}
 
 -- numbers 1 and 2 of set 1
 abbrev pub of_two : History
@@ -29,6 +30,19 @@ closer-makes-it-whole = refl
 
 closed-set-is-not-open : open_numbers (of_two ▸ wrote 6 3 aa) ≡ []
 closed-set-is-not-open = refl
+
+-- A member arrived when it was taken in, and not when its set became whole. What a start says of a change stays.
+abbrev arrivals : View → List (Option ℕ)
+arrivals v = map (λ c. c.arrived) v.kept
+
+members-arrived-before : arrivals (view (of_two ▸ wrote 6 3 aa) 7) ≡ Some 5 ∷ Some 5 ∷ Some 6 ∷ []
+members-arrived-before = refl
+
+held-over-a-view : arrivals (view (Start (view of_two 5) ▸ wrote 6 3 aa) 7) ≡ Some 5 ∷ Some 5 ∷ Some 6 ∷ []
+held-over-a-view = refl
+
+unknown-stays-unknown : arrivals (view (Start (start_of (of_depth (Some 10)) None (0 ∷ []) 1 (record (kept_write 1 1 4) { arrived = None } ∷ [])) ▸ wrote 6 3 aa) 7) ≡ None ∷ Some 6 ∷ []
+unknown-stays-unknown = refl
 
 -- The mark that ends a set closes it, and its sample takes effect.
 end-mark-closes : shown (begin (of_depth (Some 10)) ▸ wrote_in 1 5 1 ▸ took 6 2 aa Write None End) 6 ≡ (1, 5) ∷ (2, 6) ∷ []

@@ -36,7 +36,7 @@ good-write m lifespan mark lives marked = record { lifespan = lives; mark = mark
 -- The blank start of one topic is sound, and begins a history.
 sound-blank-of : (depth : Option ℕ) → IsLimit depth → IsSound (blank_of (of_depth depth))
 sound-blank-of depth limit =
-    record { in_range = refl; differ = refl; instances_in_order = refl; registered_in_order = refl; kept_in_order = refl; sets_open = refl; quiet = refl; early = refl; keys = refl; numbers_rise = refl; numbers_below = refl; ordinals_within = refl; ordinals_rise = refl; ordinals_begin = refl; few = refl; registered_here = refl; topics = good-topic depth limit; samples_held = (tt, tt); samples_kept = tt; keys_held = refl; keys_zero = refl; writer_count = omega arith }
+    record { in_range = refl; differ = refl; instances_in_order = refl; registered_in_order = refl; kept_in_order = refl; sets_open = refl; quiet = refl; early = refl; arrived_early = refl; keys = refl; numbers_rise = refl; numbers_below = refl; ordinals_within = refl; ordinals_rise = refl; ordinals_begin = refl; few = refl; registered_here = refl; topics = good-topic depth limit; samples_held = (tt, tt); samples_kept = tt; keys_held = refl; keys_zero = refl; writer_count = omega arith }
 
 -- An open set stands in a history,
 history-of-two : IsHistory of_two
@@ -73,4 +73,4 @@ sound-one-of-two = sound-view one_of_two 5 history-one-of-two (omega arith)
 -- A sound start may count changes of which it keeps none: its view counts 0.
 sound-keeping-none : IsSound keeping_none
 sound-keeping-none =
-    record { in_range = refl; differ = refl; instances_in_order = refl; registered_in_order = refl; kept_in_order = refl; sets_open = refl; quiet = refl; early = refl; keys = refl; numbers_rise = refl; numbers_below = refl; ordinals_within = refl; ordinals_rise = refl; ordinals_begin = refl; few = refl; registered_here = refl; topics = good-topic (Some 2) (omega arith, omega arith); samples_held = (tt, tt); samples_kept = tt; keys_held = refl; keys_zero = refl; writer_count = omega arith }
+    record { in_range = refl; differ = refl; instances_in_order = refl; registered_in_order = refl; kept_in_order = refl; sets_open = refl; quiet = refl; early = refl; arrived_early = refl; keys = refl; numbers_rise = refl; numbers_below = refl; ordinals_within = refl; ordinals_rise = refl; ordinals_begin = refl; few = refl; registered_here = refl; topics = good-topic (Some 2) (omega arith, omega arith); samples_held = (tt, tt); samples_kept = tt; keys_held = refl; keys_zero = refl; writer_count = omega arith }

@@ -11,7 +11,7 @@ use Rattle.dur_view.specs.Identities.{Key}
 use Rattle.dur_view.specs.declared.data.Instance.{Instance}
 use Rattle.dur_view.specs.declared.data.View.{View}
 use Rattle.dur_view.specs.Words.{is_key}
-use Rattle.dur_view.specs.History.{History, Start, ◌▸◌, start, brings_to, Event, Effect, Gone}
+use Rattle.dur_view.specs.History.{History, Start, ◌▸◌, start, brings_to, TopicEvent, Effect, Gone}
 use Rattle.dur_view.specs.Past.{Past, Begin, ◌▹◌, ◌▹▹◌, past, part}
 use Rattle.dur_view.specs.Fates.{line_in, is_of, time_of, registered, registered_by, with_place, is_nobody, is_quiet, quiet_since, exists, keys, existing, key_cmp}
 use Rattle.dur_view.specs.Sound.{EachKey, Ascending}
@@ -41,10 +41,10 @@ quiet-step-at true true false o t is = refl
 quiet-step-at true false g o t is = refl
 quiet-step-at false a g o t is = refl
 
-quiet-step : (p : Past) (e : Event) (k : Key) → is_some (quiet_since p k) ≡ is_quiet p k → is_some (quiet_since (p ▹ e) k) ≡ is_quiet (p ▹ e) k
+quiet-step : (p : Past) (e : TopicEvent) (k : Key) → is_some (quiet_since p k) ≡ is_quiet p k → is_some (quiet_since (p ▹ e) k) ≡ is_quiet (p ▹ e) k
 quiet-step p e k is = quiet-step-at (is_quiet (p ▹ e) k) (not (is_of k e)) (is_quiet p k) (quiet_since p k) (time_of e) is
 
-quiet-extend : (p : Past) (es : List Event) (k : Key) → is_some (quiet_since p k) ≡ is_quiet p k → is_some (quiet_since (p ▹▹ es) k) ≡ is_quiet (p ▹▹ es) k
+quiet-extend : (p : Past) (es : List TopicEvent) (k : Key) → is_some (quiet_since p k) ≡ is_quiet p k → is_some (quiet_since (p ▹▹ es) k) ≡ is_quiet (p ▹▹ es) k
 quiet-extend p [] k is = is
 quiet-extend p (e ∷ es) k is = quiet-extend (p ▹ e) es k (quiet-step p e k is)
 
@@ -122,11 +122,11 @@ rise-cond : (b : Bool) (xs ys : List ℕ) → each_two nat_lt xs ≡ true → ea
 rise-cond true xs ys a c = a
 rise-cond false xs ys a c = c
 
-rise-step : (p : Past) (e : Event) (k : Key) → each_two nat_lt (registered p k) ≡ true → each_two nat_lt (registered (p ▹ e) k) ≡ true
-rise-step p (Effect m by w n s) k rise = rise-cond (is_key s.key k) (registered_by s.act by (registered p k)) (registered p k) (rise-by s.act by (registered p k) rise) rise
+rise-step : (p : Past) (e : TopicEvent) (k : Key) → each_two nat_lt (registered p k) ≡ true → each_two nat_lt (registered (p ▹ e) k) ≡ true
+rise-step p (Effect m by w n a s) k rise = rise-cond (is_key s.key k) (registered_by s.act by (registered p k)) (registered p k) (rise-by s.act by (registered p k) rise) rise
 rise-step p (Gone m by) k rise = rise-filter (λ x. not (x == by)) (registered p k) rise
 
-rise-extend : (p : Past) (es : List Event) (k : Key) → each_two nat_lt (registered p k) ≡ true → each_two nat_lt (registered (p ▹▹ es) k) ≡ true
+rise-extend : (p : Past) (es : List TopicEvent) (k : Key) → each_two nat_lt (registered p k) ≡ true → each_two nat_lt (registered (p ▹▹ es) k) ≡ true
 rise-extend p [] k rise = rise
 rise-extend p (e ∷ es) k rise = rise-extend (p ▹ e) es k (rise-step p e k rise)
 

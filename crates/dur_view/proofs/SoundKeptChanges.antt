@@ -55,7 +55,7 @@ abbrev pub ordinal_at : Past → List Made → List Made → Made → ℕ
 ordinal_at p all before c = counted (settings p).depth (find (is_made_of c.sample.key) all) c.ordinal (count_by (is_made_of c.sample.key) before + 1)
 
 abbrev pub kept_change : ℕ → Past → List Instance → List Made → List Made → Made → Kept
-kept_change at p lines all before c = record { instance = at + place_of lines c.sample.key; ordinal = ordinal_at p all before c; writer = c.writer; number = c.number; sample = c.sample }
+kept_change at p lines all before c = record { instance = at + place_of lines c.sample.key; ordinal = ordinal_at p all before c; writer = c.writer; number = c.number; arrived = c.arrived; sample = c.sample }
 
 -- the first one of a key has ordinal 1
 abbrev begins : ℕ → Kept → Bool

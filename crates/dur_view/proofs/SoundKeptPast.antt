@@ -1,5 +1,5 @@
 -- Along a history: the listed changes are good changes with rising ordinals, and the keys are keys of their topic.
-use Rattle.std.proofs.Common.{◌≡◌, ℕ, ◌+◌, ◌<◌, Bool, true, false, cond, List, [], ◌∷◌, ◌++◌, map, refl, sym, ap, subst, append-nil, arith}
+use Rattle.std.proofs.Common.{◌≡◌, ℕ, ◌+◌, ◌<◌, Bool, Some, true, false, cond, List, [], ◌∷◌, ◌++◌, map, refl, sym, ap, subst, append-nil, arith}
 use Rattle.std.specs.Prelude.{◌==◌}
 use Rattle.std.specs.List.{list_all, AllByRecursion}
 use Rattle.std.specs.Ordering.{match_ordering}
@@ -16,7 +16,7 @@ use Rattle.dur_qos.specs.declared.plan.Topic.{Topic}
 use Rattle.dur_view.specs.Identities.{Guid, Key}
 use Rattle.dur_view.specs.declared.data.Held.{Held}
 use Rattle.dur_view.specs.Words.{is_key, is_change, is_key_of, topic_of, place_in}
-use Rattle.dur_view.specs.History.{History, start, held, writer_of, Event, Effect, Gone, itself, goes_on, brings, brings_to, Follows}
+use Rattle.dur_view.specs.History.{History, start, held, writer_of, TopicEvent, Effect, Gone, itself, goes_on, brings, brings_to, Follows}
 use Rattle.dur_view.specs.Past.{Made, Past, ◌▹◌, ◌▹▹◌}
 use Rattle.dur_view.specs.Fates.{count, made, with_key, keys, key_cmp}
 use Rattle.dur_view.specs.Sound.{Each, Listed, Ordered, EachKey}
@@ -28,18 +28,18 @@ use Rattle.dur_view.proofs.SoundWriterLaws.{set-of}
 
 -- ---- what an entry brings
 -- an event is of a good sample, whose key is one of the topic
-abbrev pub IsGoodEvent : List Topic → ℕ → Event → Type 0
-IsGoodEvent topics t (Effect m by w n s) = IsGood s × (is_key_of topics t s.key ≡ true)
+abbrev pub IsGoodEvent : List Topic → ℕ → TopicEvent → Type 0
+IsGoodEvent topics t (Effect m by w n a s) = IsGood s × (is_key_of topics t s.key ≡ true)
 IsGoodEvent topics t (Gone m by) = Unit {0}
 
 good-members : (topics : List Topic) (t m by : ℕ) (w : Guid) (members : List Held) → AllByRecursion (λ x. IsGood x.sample) members → list_all (λ x. is_key_of topics t x.sample.key) members ≡ true
-    → AllByRecursion (IsGoodEvent topics t) (map (λ x. Effect m by w x.number x.sample) members)
+    → AllByRecursion (IsGoodEvent topics t) (map (λ x. Effect m by w x.number x.moment x.sample) members)
 good-members topics t m by w [] good keys = tt
 good-members topics t m by w (x ∷ members) good keys =
     let parts = and_parts (is_key_of topics t x.sample.key) (list_all (λ (y : Held). is_key_of topics t y.sample.key) members) keys in
     ((good.0, parts.0), good-members topics t m by w members good.1 parts.1)
 
-good-cond : (topics : List Topic) (t : ℕ) (b : Bool) (es : List Event) → AllByRecursion (IsGoodEvent topics t) es → AllByRecursion (IsGoodEvent topics t) (cond b [] es)
+good-cond : (topics : List Topic) (t : ℕ) (b : Bool) (es : List TopicEvent) → AllByRecursion (IsGoodEvent topics t) es → AllByRecursion (IsGoodEvent topics t) (cond b [] es)
 good-cond topics t true es all = tt
 good-cond topics t false es all = all
 
@@ -54,12 +54,12 @@ good-brings h by (Took m w n s) past_of follow =
     let t = topic_of (start h) w in
     let set = set-of h w past_of follow.known in
     let members = good-members topics t m by w (held h w) set.good set.keys in
-    each-join (IsGoodEvent topics t) (cond (goes_on s.set (held h w)) [] (map (λ x. Effect m by w x.number x.sample) (held h w))) (itself m by w n s s.set)
-    (good-cond topics t (goes_on s.set (held h w)) (map (λ x. Effect m by w x.number x.sample) (held h w)) members) (good-itself topics t m by w n s s.set follow.good.0 follow.good.1)
+    each-join (IsGoodEvent topics t) (cond (goes_on s.set (held h w)) [] (map (λ x. Effect m by w x.number x.moment x.sample) (held h w))) (itself m by w n s s.set)
+    (good-cond topics t (goes_on s.set (held h w)) (map (λ x. Effect m by w x.number x.moment x.sample) (held h w)) members) (good-itself topics t m by w n s s.set follow.good.0 follow.good.1)
 good-brings h by (Skip m w from to) past_of follow = tt
 good-brings h by (Lost m w) past_of follow = (tt, tt)
 
-good-brings-at : (topics : List Topic) (u t : ℕ) (es : List Event) (b : Bool) → (u == t) ≡ b → AllByRecursion (IsGoodEvent topics u) es → AllByRecursion (IsGoodEvent topics t) (cond b es [])
+good-brings-at : (topics : List Topic) (u t : ℕ) (es : List TopicEvent) (b : Bool) → (u == t) ≡ b → AllByRecursion (IsGoodEvent topics u) es → AllByRecursion (IsGoodEvent topics t) (cond b es [])
 good-brings-at topics u t es true is all = subst (λ x. AllByRecursion (IsGoodEvent topics x) es) (eqb-true u t is) all
 good-brings-at topics u t es false is all = tt
 
@@ -89,8 +89,8 @@ Climbs-push : (xs : List Made) (d : Made) → Climbs xs → Each (λ c. IsBefore
 Climbs-push [] d a b = (tt, tt)
 Climbs-push (x ∷ xs) d a b = (Each-append (IsBefore x) xs (d ∷ []) a.0 (b.0, tt), Climbs-push xs d a.1 b.1)
 
-new-after : (p : Past) (w : Guid) (n : ℕ) (s : Sample) (c : Made) → Listed p c → IsBefore c record { ordinal = count p s.key + 1; writer = w; number = n; sample = s }
-new-after p w n s c listed = λ same.
+new-after : (p : Past) (w : Guid) (n a : ℕ) (s : Sample) (c : Made) → Listed p c → IsBefore c record { ordinal = count p s.key + 1; writer = w; number = n; arrived = Some a; sample = s }
+new-after p w n a s c listed = λ same.
     let is = ap (λ (k : Key). count p k) (is_key-true c.sample.key s.key same) in
     let within = listed.within in omega arith
 
@@ -103,28 +103,28 @@ each-with : (P : Key → Type 0) (k : Key) (xs : List Key) → P k → EachKey P
 each-with P k [] one each = (one, tt)
 each-with P k (x ∷ xs) one each = each-with-at P k x xs (with_key k xs) (key_cmp k x) one each (each-with P k xs one each.1)
 
-proper-at : (topics : List Topic) (t : ℕ) (p : Past) (w : Guid) (n : ℕ) (s : Sample) (b : Bool) → is_change s.act ≡ b → Ordered p → Proper topics t p → IsGood s → is_key_of topics t s.key ≡ true
-    → let d : Made = record { ordinal = count p s.key + 1; writer = w; number = n; sample = s } in
+proper-at : (topics : List Topic) (t : ℕ) (p : Past) (w : Guid) (n a : ℕ) (s : Sample) (b : Bool) → is_change s.act ≡ b → Ordered p → Proper topics t p → IsGood s → is_key_of topics t s.key ≡ true
+    → let d : Made = record { ordinal = count p s.key + 1; writer = w; number = n; arrived = Some a; sample = s } in
     Each IsGoodChange (made p ++ cond b (d ∷ []) []) × (Climbs (made p ++ cond b (d ∷ []) []) × EachKey (λ k. is_key_of topics t k ≡ true) (cond b (with_key s.key (keys p)) (keys p)))
-proper-at topics t p w n s true change ordered proper good key =
-    let d : Made = record { ordinal = count p s.key + 1; writer = w; number = n; sample = s } in (
+proper-at topics t p w n a s true change ordered proper good key =
+    let d : Made = record { ordinal = count p s.key + 1; writer = w; number = n; arrived = Some a; sample = s } in (
       Each-append IsGoodChange (made p) (d ∷ []) proper.changes ((change, good), tt),
       (
-        Climbs-push (made p) d proper.climbs (Each-weaken (Listed p) (λ c. IsBefore c d) (new-after p w n s) (made p) ordered.each),
+        Climbs-push (made p) d proper.climbs (Each-weaken (Listed p) (λ c. IsBefore c d) (new-after p w n a s) (made p) ordered.each),
         each-with (λ k. is_key_of topics t k ≡ true) s.key (keys p) key proper.keys,
       ),
     )
-proper-at topics t p w n s false change ordered proper good key =
+proper-at topics t p w n a s false change ordered proper good key =
     (Each-append IsGoodChange (made p) [] proper.changes tt, (subst Climbs (sym (append-nil (made p))) proper.climbs, proper.keys))
 
-Proper-step : (topics : List Topic) (t : ℕ) (p : Past) (e : Event) → Ordered p → IsGoodEvent topics t e → Proper topics t p → Proper topics t (p ▹ e)
-Proper-step topics t p (Effect m by w n s) ordered good proper =
-    let parts = proper-at topics t p w n s (is_change s.act) refl ordered proper good.0 good.1 in
+Proper-step : (topics : List Topic) (t : ℕ) (p : Past) (e : TopicEvent) → Ordered p → IsGoodEvent topics t e → Proper topics t p → Proper topics t (p ▹ e)
+Proper-step topics t p (Effect m by w n a s) ordered good proper =
+    let parts = proper-at topics t p w n a s (is_change s.act) refl ordered proper good.0 good.1 in
     record { changes = parts.0; climbs = parts.1.0; keys = parts.1.1 }
 Proper-step topics t p (Gone m by) ordered good proper =
     record { changes = Each-append IsGoodChange (made p) [] proper.changes tt; climbs = subst Climbs (sym (append-nil (made p))) proper.climbs; keys = proper.keys }
 
-pub Proper-extend : (topics : List Topic) (t : ℕ) (p : Past) (es : List Event) → Ordered p → AllByRecursion (IsGoodEvent topics t) es → Proper topics t p → Proper topics t (p ▹▹ es)
+pub Proper-extend : (topics : List Topic) (t : ℕ) (p : Past) (es : List TopicEvent) → Ordered p → AllByRecursion (IsGoodEvent topics t) es → Proper topics t p → Proper topics t (p ▹▹ es)
 Proper-extend topics t p [] ordered good proper = proper
 Proper-extend topics t p (e ∷ es) ordered good proper =
     Proper-extend topics t (p ▹ e) es (Ordered-step p e ordered) good.1 (Proper-step topics t p e ordered good.0 proper)

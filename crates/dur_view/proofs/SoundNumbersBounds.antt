@@ -12,7 +12,7 @@ use Rattle.dur_view.specs.Identities.{Guid}
 use Rattle.dur_view.specs.declared.data.Held.{Held}
 use Rattle.dur_view.specs.declared.data.KeptWriter.{KeptWriter}
 use Rattle.dur_view.specs.Words.{is_same}
-use Rattle.dur_view.specs.History.{History, ◌▸◌, next, held, joined, goes_on, itself, brings, writer_of, Event, Effect, Gone, Follows}
+use Rattle.dur_view.specs.History.{History, ◌▸◌, next, held, joined, goes_on, itself, brings, writer_of, TopicEvent, Effect, Gone, Follows}
 use Rattle.dur_view.specs.IsSound.{is_of_set, run_to, is_open_set, first_open}
 use Rattle.dur_view.proofs.FullViews.{next-untouched, held-untouched}
 use Rattle.dur_view.proofs.SoundNumbersRise.{Numbered, members-numbered}
@@ -48,8 +48,8 @@ pub is_same-refl : (w : Guid) → is_same w w ≡ true
 is_same-refl w = (bytes_eq-Decides w w).1 refl
 
 -- ---- the events of an open set that closes
-closed : (m by : ℕ) (w : Guid) (next to : ℕ) (members : List Held) (rest : List Event) → is_open_set next members ≡ true → ((k : ℕ) → k ≤ next → Numbered w k rest to)
-    → Numbered w (open_from next members) (map (λ x. Effect m by w x.number x.sample) members ++ rest) to
+closed : (m by : ℕ) (w : Guid) (next to : ℕ) (members : List Held) (rest : List TopicEvent) → is_open_set next members ≡ true → ((k : ℕ) → k ≤ next → Numbered w k rest to)
+    → Numbered w (open_from next members) (map (λ x. Effect m by w x.number x.moment x.sample) members ++ rest) to
 closed m by w next to [] rest set after = after next (omega arith)
 closed m by w next to (x ∷ xs) rest set after = members-numbered m by w x.number next x.number x.number to (x ∷ xs) rest (omega arith) set after
 
@@ -58,17 +58,17 @@ goes-on-from f n [] x next on = absurd (cc)
 goes-on-from f n (y ∷ ys) x next on = omega arith
 
 marked-at : (m by : ℕ) (w : Guid) (next f : ℕ) (members : List Held) (x : Held) (a b : Bool) → x.number ≡ next → is_open_set next members ≡ true → goes_on (Of f) members ≡ b
-    → Numbered w (open_from next members) (cond b [] (map (λ y. Effect m by w y.number y.sample) members) ++ []) (open_from (x.number + 1) (cond a (x ∷ []) (cond b (members ++ x ∷ []) [])))
+    → Numbered w (open_from next members) (cond b [] (map (λ y. Effect m by w y.number y.moment y.sample) members) ++ []) (open_from (x.number + 1) (cond a (x ∷ []) (cond b (members ++ x ∷ []) [])))
 marked-at m by w next f members x true true number set on = let low = open-below next members set in omega arith
 marked-at m by w next f members x false true number set on = goes-on-from f (x.number + 1) members x next on
 marked-at m by w next f members x true false number set on = closed m by w next x.number members [] set (λ k le. omega arith)
 marked-at m by w next f members x false false number set on = closed m by w next (x.number + 1) members [] set (λ k le. omega arith)
 
 took-numbered : (m by : ℕ) (w : Guid) (next n : ℕ) (s : Sample) (mark : SetMark) (members : List Held) → n ≡ next → is_open_set next members ≡ true
-    → Numbered w (open_from next members) (cond (goes_on mark members) [] (map (λ x. Effect m by w x.number x.sample) members) ++ itself m by w n s mark)
+    → Numbered w (open_from next members) (cond (goes_on mark members) [] (map (λ x. Effect m by w x.number x.moment x.sample) members) ++ itself m by w n s mark)
     (open_from (n + 1) (joined mark record { number = n; moment = m; sample = s } members))
-took-numbered m by w next n s NoSet members number set = closed m by w next (n + 1) members (Effect m by w n s ∷ []) set (λ k le. (refl, omega arith, omega arith))
-took-numbered m by w next n s End members number set = closed m by w next (n + 1) members (Effect m by w n s ∷ []) set (λ k le. (refl, omega arith, omega arith))
+took-numbered m by w next n s NoSet members number set = closed m by w next (n + 1) members (Effect m by w n m s ∷ []) set (λ k le. (refl, omega arith, omega arith))
+took-numbered m by w next n s End members number set = closed m by w next (n + 1) members (Effect m by w n m s ∷ []) set (λ k le. (refl, omega arith, omega arith))
 took-numbered m by w next n s (Of f) members number set =
     marked-at m by w next f members record { number = n; moment = m; sample = s } (f == n) (goes_on (Of f) members) number set refl
 
@@ -86,9 +86,9 @@ brings-numbered h (Skip m w from to) by follow set =
 brings-numbered h (Lost m w) by follow set =
     subst (λ (b : Bool). bound h w ≤ open_from (next h w) (cond b [] (held h w))) (sym (is_same-refl w)) (open-below (next h w) (held h w) set)
 
-pub numbered-up : (w : Guid) (from to : ℕ) (es : List Event) → Numbered w from es to → from ≤ to
+pub numbered-up : (w : Guid) (from to : ℕ) (es : List TopicEvent) → Numbered w from es to → from ≤ to
 numbered-up w from to [] numbers = numbers
-numbered-up w from to (Effect m by u n s ∷ es) numbers = let rest = numbered-up w (n + 1) to es numbers.2 in let le = numbers.1 in omega arith
+numbered-up w from to (Effect m by u n a s ∷ es) numbers = let rest = numbered-up w (n + 1) to es numbers.2 in let le = numbers.1 in omega arith
 numbered-up w from to (Gone m by ∷ es) numbers = numbered-up w from to es numbers
 
 -- the bound of another writer stays

@@ -28,7 +28,7 @@ use Rattle.dur_view.proofs.SoundNumbersStart.{Known, lower}
 use Rattle.dur_view.proofs.SoundNumbersPast.{numbers-past, below-past}
 
 -- ---- the tests of lists that are joined
-all-append : {A : Type 0} (test : A → Bool) (xs ys : List A) → list_all test xs ≡ true → list_all test ys ≡ true → list_all test (xs ++ ys) ≡ true
+pub all-append : {A : Type 0} (test : A → Bool) (xs ys : List A) → list_all test xs ≡ true → list_all test ys ≡ true → list_all test (xs ++ ys) ≡ true
 all-append test [] ys a b = b
 all-append test (x ∷ xs) ys a b = let parts = and_parts (test x) (list_all test xs) a in and-both (test x) (list_all test (xs ++ ys)) parts.0 (all-append test xs ys parts.1 b)
 
@@ -40,10 +40,10 @@ two-append test (x ∷ xs) ys a b cross =
     and-both (list_all (test x) (xs ++ ys)) (each_two test (xs ++ ys)) (all-append (test x) xs ys parts.0 crosses.0) (two-append test xs ys parts.1 b crosses.1)
 
 -- ---- what is kept of a topic's changes
-abbrev kept_as : ℕ → List Instance → ℕ → Made → Kept
-kept_as at lines o c = record { instance = at + place_of lines c.sample.key; ordinal = o; writer = c.writer; number = c.number; sample = c.sample }
+abbrev pub kept_as : ℕ → List Instance → ℕ → Made → Kept
+kept_as at lines o c = record { instance = at + place_of lines c.sample.key; ordinal = o; writer = c.writer; number = c.number; arrived = c.arrived; sample = c.sample }
 
-all-from : (test : Kept → Bool) (P : Made → Type 0) (at : ℕ) (p : Past) (lines : List Instance) (all before cs : List Made) → ((o : ℕ) (c : Made) → P c → test (kept_as at lines o c) ≡ true) → Each P cs
+pub all-from : (test : Kept → Bool) (P : Made → Type 0) (at : ℕ) (p : Past) (lines : List Instance) (all before cs : List Made) → ((o : ℕ) (c : Made) → P c → test (kept_as at lines o c) ≡ true) → Each P cs
     → list_all test (kept_from at p lines all before cs) ≡ true
 all-from test P at p lines all before [] step each = refl
 all-from test P at p lines all before (c ∷ cs) step each = and-both _ _ (step _ c each.0) (all-from test P at p lines all (before ++ c ∷ []) cs step each.1)
@@ -59,7 +59,7 @@ rise-from at p lines all before (c ∷ cs) rise =
     (all-from _ (Lower c) at p lines all (before ++ c ∷ []) cs (λ o d low. lower-at (kept_as at lines 0 c) d.writer d.number (is_same c.writer d.writer) refl low) rise.0)
     (rise-from at p lines all (before ++ c ∷ []) cs rise.1)
 
-abbrev alive : Past → ℕ → Made → Bool
+abbrev pub alive : Past → ℕ → Made → Bool
 alive p m c = not (has_fate p m c)
 
 known-living : (h : History) (m t : ℕ) → IsHistory h → Each (Known (start h) t) (living (past t h) m)

@@ -1,10 +1,10 @@
 -- The numbers of a topic's changes along a history.
-use Rattle.std.proofs.Common.{◌≡◌, ℕ, ◌+◌, ◌<◌, Bool, true, false, cond, List, [], ◌∷◌, ◌++◌, refl, sym, subst, append-nil}
+use Rattle.std.proofs.Common.{◌≡◌, ℕ, ◌+◌, ◌<◌, Bool, Some, true, false, cond, List, [], ◌∷◌, ◌++◌, refl, sym, subst, append-nil}
 use Rattle.std.specs.Prelude.{◌==◌}
 use Rattle.dur_base.specs.declared.entry.Entry.{Entry}
 use Rattle.dur_view.specs.Identities.{Guid}
 use Rattle.dur_view.specs.Words.{is_same, topic_of, place_in, is_change}
-use Rattle.dur_view.specs.History.{History, Start, ◌▸◌, start, held, writer_of, brings, brings_to, Event, Effect, Gone, Follows}
+use Rattle.dur_view.specs.History.{History, Start, ◌▸◌, start, held, writer_of, brings, brings_to, TopicEvent, Effect, Gone, Follows}
 use Rattle.dur_view.specs.Past.{Made, Past, ◌▹◌, ◌▹▹◌, past}
 use Rattle.dur_view.specs.Fates.{count, made}
 use Rattle.dur_view.specs.IsSound.{IsHistory}
@@ -18,19 +18,19 @@ use Rattle.dur_view.proofs.SoundNumbersBounds.{bound, bound-stays, brings-number
 use Rattle.dur_view.proofs.SoundNumbersStart.{Known, rise-start, known-start, under-start}
 
 -- ---- what holds of each change that the events make
-abbrev Makes : (Made → Type 0) → Event → Type 0
-Makes P (Effect m by w n s) = (o : ℕ) → P record { ordinal = o; writer = w; number = n; sample = s }
+abbrev pub Makes : (Made → Type 0) → TopicEvent → Type 0
+Makes P (Effect m by w n a s) = (o : ℕ) → P record { ordinal = o; writer = w; number = n; arrived = Some a; sample = s }
 Makes P (Gone m by) = Unit {0}
 
 made-at : (P : Made → Type 0) (cs : List Made) (d : Made) (b : Bool) → P d → Each P cs → Each P (cs ++ cond b (d ∷ []) [])
 made-at P cs d true one all = Each-append P cs (d ∷ []) all (one, tt)
 made-at P cs d false one all = subst (λ (l : List Made). Each P l) (sym (append-nil cs)) all
 
-made-extend : (P : Made → Type 0) (p : Past) (es : List Event) → EachEvent (Makes P) es → Each P (made p) → Each P (made (p ▹▹ es))
+pub made-extend : (P : Made → Type 0) (p : Past) (es : List TopicEvent) → EachEvent (Makes P) es → Each P (made p) → Each P (made (p ▹▹ es))
 made-extend P p [] each all = all
-made-extend P p (Effect m by w n s ∷ es) each all =
-    let d : Made = record { ordinal = count p s.key + 1; writer = w; number = n; sample = s } in
-    made-extend P (p ▹ Effect m by w n s) es each.1 (made-at P (made p) d (is_change s.act) (each.0 (count p s.key + 1)) all)
+made-extend P p (Effect m by w n a s ∷ es) each all =
+    let d : Made = record { ordinal = count p s.key + 1; writer = w; number = n; arrived = Some a; sample = s } in
+    made-extend P (p ▹ Effect m by w n a s) es each.1 (made-at P (made p) d (is_change s.act) (each.0 (count p s.key + 1)) all)
 made-extend P p (Gone m by ∷ es) each all =
     made-extend P (p ▹ Gone m by) es each.1 (subst (λ (l : List Made). Each P l) (sym (append-nil (made p))) all)
 
@@ -40,7 +40,7 @@ pub record Numbers (t : ℕ) (h : History) : Type 0 where
   pub under : (w : Guid) → Each (Under w (bound h w)) (made (past t h))
   pub known : Each (Known (start h) t) (made (past t h))
 
-numbered-at : (w : Guid) (from to : ℕ) (es : List Event) (b : Bool) → Numbered w from es to → Numbered w from (cond b es []) to
+numbered-at : (w : Guid) (from to : ℕ) (es : List TopicEvent) (b : Bool) → Numbered w from es to → Numbered w from (cond b es []) to
 numbered-at w from to es true numbers = numbers
 numbered-at w from to es false numbers = numbered-up w from to es numbers
 
@@ -58,7 +58,7 @@ under-at t h e w true same own before = subst (λ (u : Guid). Each (Under u (bou
 under-at t h e w false same own before =
     subst (λ b. Each (Under w b) (made (past t (h ▸ e)))) (sym (bound-stays h e w same))
     (made-extend (Under w (bound h w)) (past t h) (brings_to t h e)
-    (each-brings_to (Makes (Under w (bound h w))) t h e (λ here n s o is. absurd (cc)) (λ here. tt)) (before.under w))
+    (each-brings_to (Makes (Under w (bound h w))) t h e (λ here n a s o is. absurd (cc)) (λ here. tt)) (before.under w))
 
 pub numbers-past : (t : ℕ) (h : History) → IsHistory h → Numbers t h
 numbers-past t (Start v) sound = record { rise = rise-start v t sound; under = λ w. under-start v t w sound; known = known-start v t sound }
@@ -70,7 +70,7 @@ numbers-past t (h ▸ e) follow =
       under = λ w. under-at t h e w (is_same (writer_of e) w) refl own before;
       known =
           made-extend (Known (start h) t) (past t h) (brings_to t h e)
-          (each-brings_to (Makes (Known (start h) t)) t h e (λ here n s o. record { there = follow.1.known; topic = here }) (λ here. tt)) before.known;
+          (each-brings_to (Makes (Known (start h) t)) t h e (λ here n a s o. record { there = follow.1.known; topic = here }) (λ here. tt)) before.known;
     }
 
 -- each number is below its own writer's bound

@@ -1,11 +1,11 @@
 -- Changes whose numbers rise, writer by writer, and stay below a bound, over events of one writer with rising numbers.
-use Rattle.std.proofs.Common.{◌≡◌, ℕ, ◌+◌, ◌≤◌, ◌<◌, Bool, true, false, cond, List, [], ◌∷◌, ◌++◌, map, refl, sym, subst, append-nil, arith}
+use Rattle.std.proofs.Common.{◌≡◌, ℕ, ◌+◌, ◌≤◌, ◌<◌, Bool, Some, true, false, cond, List, [], ◌∷◌, ◌++◌, map, refl, sym, subst, append-nil, arith}
 use Rattle.std.specs.Prelude.{◌==◌, ◌&&◌, filter}
 use Rattle.std.proofs.lemmas.Bool.{and_parts, eqb-true}
 use Rattle.dur_view.specs.Identities.{Guid}
 use Rattle.dur_view.specs.declared.data.Held.{Held}
 use Rattle.dur_view.specs.Words.{is_same, is_change}
-use Rattle.dur_view.specs.History.{Event, Effect, Gone}
+use Rattle.dur_view.specs.History.{TopicEvent, Effect, Gone}
 use Rattle.dur_view.specs.Past.{Made, Past, ◌▹◌, ◌▹▹◌}
 use Rattle.dur_view.specs.Fates.{count, made}
 use Rattle.dur_view.specs.IsSound.{is_of_set, run_to}
@@ -41,9 +41,9 @@ rise-filter test [] rise = tt
 rise-filter test (c ∷ cs) rise = keep-at c (filter test cs) (test c) (Each-filter (Lower c) test cs rise.0) (rise-filter test cs rise.1)
 
 -- The numbers of the events, all of one writer, rise from the first bound on and are below the second.
-abbrev pub Numbered : Guid → ℕ → List Event → ℕ → Type 0
+abbrev pub Numbered : Guid → ℕ → List TopicEvent → ℕ → Type 0
 Numbered w from [] to = from ≤ to
-Numbered w from (Effect m by u n s ∷ es) to = (u ≡ w) × (from ≤ n) × Numbered w (n + 1) es to
+Numbered w from (Effect m by u n a s ∷ es) to = (u ≡ w) × (from ≤ n) × Numbered w (n + 1) es to
 Numbered w from (Gone m by ∷ es) to = Numbered w from es to
 
 -- what holds of a list of changes, its writer and its bound
@@ -64,17 +64,17 @@ made-at w bound cs d true is le before = push w bound cs d is le before
 made-at w bound cs d false is le before =
     subst (λ (l : List Made). RisesTo w (d.number + 1) l) (sym (append-nil cs)) record { rise = before.rise; under = under-more w bound (d.number + 1) cs (omega arith) before.under }
 
-pub rises-extend : (w : Guid) (from to : ℕ) (p : Past) (es : List Event) → Numbered w from es to → RisesTo w from (made p) → RisesTo w to (made (p ▹▹ es))
+pub rises-extend : (w : Guid) (from to : ℕ) (p : Past) (es : List TopicEvent) → Numbered w from es to → RisesTo w from (made p) → RisesTo w to (made (p ▹▹ es))
 rises-extend w from to p [] numbers before = record { rise = before.rise; under = under-more w from to (made p) numbers before.under }
-rises-extend w from to p (Effect m by u n s ∷ es) numbers before =
-    let d : Made = record { ordinal = count p s.key + 1; writer = u; number = n; sample = s } in
-    rises-extend w (n + 1) to (p ▹ Effect m by u n s) es numbers.2 (made-at w from (made p) d (is_change s.act) numbers.0 numbers.1 before)
+rises-extend w from to p (Effect m by u n a s ∷ es) numbers before =
+    let d : Made = record { ordinal = count p s.key + 1; writer = u; number = n; arrived = Some a; sample = s } in
+    rises-extend w (n + 1) to (p ▹ Effect m by u n a s) es numbers.2 (made-at w from (made p) d (is_change s.act) numbers.0 numbers.1 before)
 rises-extend w from to p (Gone m by ∷ es) numbers before =
     rises-extend w from to (p ▹ Gone m by) es numbers (subst (λ (l : List Made). RisesTo w from l) (sym (append-nil (made p))) before)
 
 -- The members of an open set are numbered one after another.
-pub members-numbered : (m by : ℕ) (w : Guid) (f next from n to : ℕ) (members : List Held) (rest : List Event) → from ≤ n → run_to f next n members ≡ true
-    → ((k : ℕ) → k ≤ next → Numbered w k rest to) → Numbered w from (map (λ x. Effect m by w x.number x.sample) members ++ rest) to
+pub members-numbered : (m by : ℕ) (w : Guid) (f next from n to : ℕ) (members : List Held) (rest : List TopicEvent) → from ≤ n → run_to f next n members ≡ true
+    → ((k : ℕ) → k ≤ next → Numbered w k rest to) → Numbered w from (map (λ x. Effect m by w x.number x.moment x.sample) members ++ rest) to
 members-numbered m by w f next from n to [] rest le run after = let is = eqb-true n next run in after from (omega arith)
 members-numbered m by w f next from n to (x ∷ xs) rest le run after =
     let a = and_parts (x.number == n) (is_of_set f x.sample.set && run_to f next (n + 1) xs) run in

@@ -34,7 +34,7 @@ each-at : (P : Made → Type 0) (c : Kept) (cs : List Kept) (b : Bool) → (b �
 each-at P c cs true one rest = (one refl, rest)
 each-at P c cs false one rest = rest
 
-each-kept : (P : Made → Type 0) (test keep : Kept → Bool) (cs : List Kept) → ((c : Kept) → keep c ≡ true → test c ≡ true → P (made_of c)) → list_all test cs ≡ true → Each P (map made_of (filter keep cs))
+pub each-kept : (P : Made → Type 0) (test keep : Kept → Bool) (cs : List Kept) → ((c : Kept) → keep c ≡ true → test c ≡ true → P (made_of c)) → list_all test cs ≡ true → Each P (map made_of (filter keep cs))
 each-kept P test keep [] step all = tt
 each-kept P test keep (c ∷ cs) step all =
     let parts = and_parts (test c) (list_all test cs) all in

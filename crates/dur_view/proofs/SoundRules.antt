@@ -38,9 +38,11 @@ pub record SoundKept (v : View) : Type 0 where
   pub samples_kept : AllByRecursion (λ c. IsGood c.sample) v.kept
   pub keys_zero : list_all (λ i. is_key_of v.topics i.topic i.key) v.instances ≡ true
 
--- The rules on quiet moments, on the places and topics of registered writers, and on the numbers of kept changes alone.
+-- The rules on quiet moments, on arrivals, on the places and topics of registered writers, and on the numbers of kept changes
+-- alone.
 pub record SoundNumbers (v : View) : Type 0 where
   pub quiet_early : list_all (λ i. at_most (Some v.last) (unwrap_or i.quiet 0)) v.instances ≡ true
+  pub arrived_early : list_all (λ c. nat_le (unwrap_or c.arrived 0) v.last) v.kept ≡ true
   pub registered_places : list_all (λ i. nat_lt i.topic (length v.topics) && list_all (λ r. nat_lt r (length v.writers)) i.registered) v.instances ≡ true
   pub registered_here : list_all (λ i. list_all (λ r. unwrap_or (option_map (λ w. w.topic == i.topic) (slice_get v.writers r)) false) i.registered) v.instances ≡ true
   pub numbers_rise : each_two (λ a b. not (is_same a.writer b.writer) || nat_lt a.number b.number) v.kept ≡ true

@@ -35,7 +35,7 @@ pub record SoundSet (topics : List Topic) (t last next : ℕ) (members : List He
 no-set : (topics : List Topic) (t last next : ℕ) → SoundSet topics t last next []
 no-set topics t last next = record { set = refl; early = refl; good = tt; keys = refl }
 
-all-later : (a b : ℕ) (xs : List Held) → a ≤ b → list_all (λ x. nat_le x.moment a) xs ≡ true → list_all (λ x. nat_le x.moment b) xs ≡ true
+pub all-later : (a b : ℕ) (xs : List Held) → a ≤ b → list_all (λ x. nat_le x.moment a) xs ≡ true → list_all (λ x. nat_le x.moment b) xs ≡ true
 all-later a b [] le all = refl
 all-later a b (x ∷ xs) le all =
     let parts = and_parts (nat_le x.moment a) (list_all (λ (y : Held). nat_le y.moment a) xs) all in

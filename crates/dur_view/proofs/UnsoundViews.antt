@@ -93,6 +93,9 @@ held-early s = s.early
 quiet-early : Refused (start_of topic (Some 6) [] 0 [])
 quiet-early s = s.early
 
+arrived-early : Refused (keeping (record one { arrived = Some 6 } ∷ []))
+arrived-early s = s.arrived_early
+
 -- A kept change has its instance's key and an act of a change; its writer's numbers rise and are below its next.
 key-of-its-instance : Refused (keeping (record one { sample = sample bb Write 4 None NoSet } ∷ []))
 key-of-its-instance s = s.keys

@@ -4,7 +4,7 @@ use Rattle.std.proofs.lemmas.List.{drop_at, take_rest}
 use Rattle.dur_base.specs.declared.entry.Entry.{Entry}
 use Rattle.dur_qos.specs.declared.plan.Topic.{Topic}
 use Rattle.dur_qos.specs.Good.{IsLimit}
-use Rattle.dur_view.specs.declared.change.Event.{Event}
+use Rattle.dur_view.specs.declared.change.TopicEvent.{TopicEvent}
 use Rattle.dur_view.specs.declared.data.Instance.{Instance}
 use Rattle.dur_view.specs.declared.data.Kept.{Kept}
 use Rattle.dur_view.specs.declared.data.KeptWriter.{KeptWriter}
@@ -24,10 +24,10 @@ use Rattle.dur_view.proofs.SameEffects.{past-effects, start-extend}
 use Rattle.dur_view.proofs.SoundViews.{sound_parts}
 
 -- the past of a topic is its part of the start, and the effects of the entries
-pub past-is : (v : View) (x : List Entry) (t : ℕ) (es : List Event) → es ≡ effects t (Start v +> x) → Begin (part v t) ▹▹ es ≡ past t (Start v +> x)
+pub past-is : (v : View) (x : List Entry) (t : ℕ) (es : List TopicEvent) → es ≡ effects t (Start v +> x) → Begin (part v t) ▹▹ es ≡ past t (Start v +> x)
 past-is v x t es is =
     let h = Start v +> x in
-    ap (λ (l : List Event). Begin (part v t) ▹▹ l) is ∙ sym (past-effects t h ∙ ap (λ u. Begin (part u t) ▹▹ effects t h) (start-extend (Start v) x))
+    ap (λ (l : List TopicEvent). Begin (part v t) ▹▹ l) is ∙ sym (past-effects t h ∙ ap (λ u. Begin (part u t) ▹▹ effects t h) (start-extend (Start v) x))
 
 in-range : (t : ℕ) (h : History) → IsHistory h → IsInRange (past t h)
 in-range t h follow =
@@ -38,7 +38,7 @@ in-range t h follow =
       places = λ k. places-short t h k follow;
     }
 
-pub range-over : (v : View) (x : List Entry) (t : ℕ) (es : List Event) → es ≡ effects t (Start v +> x) → IsHistory (Start v +> x) → IsInRange (Begin (part v t) ▹▹ es)
+pub range-over : (v : View) (x : List Entry) (t : ℕ) (es : List TopicEvent) → es ≡ effects t (Start v +> x) → IsHistory (Start v +> x) → IsInRange (Begin (part v t) ▹▹ es)
 range-over v x t es is follow = subst IsInRange (sym (past-is v x t es is)) (in-range t (Start v +> x) follow)
 
 -- the kept changes, where the lines stand behind others

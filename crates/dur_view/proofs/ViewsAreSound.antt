@@ -25,6 +25,7 @@ sound-view h m follow le =
       sets_open = writers.sets_open;
       quiet = instances.quiet;
       early = and-both _ _ writers.early numbers.quiet_early;
+      arrived_early = numbers.arrived_early;
       keys = kept.keys;
       numbers_rise = numbers.numbers_rise;
       numbers_below = numbers.numbers_below;

@@ -37,7 +37,7 @@ abbrev listed_later : Past → Made → ℕ
 listed_later p c = count_by (λ d. is_key d.sample.key c.sample.key && nat_lt c.ordinal d.ordinal) (made p)
 
 abbrev first_made : Made
-first_made = record { ordinal = 1; writer = writer; number = 1; sample = sample aa Write 4 None NoSet }
+first_made = record { ordinal = 1; writer = writer; number = 1; arrived = Some 4; sample = sample aa Write 4 None NoSet }
 
 really-displaced : is_displaced (past 0 (Start one_kept_of_two ▸ wrote 6 3 aa)) first_made ≡ true
 really-displaced = refl

@@ -12,7 +12,7 @@ use Rattle.dur_view.specs.Sound.{Each, Listed}
 use Rattle.dur_view.specs.View.{is_made_of, counted, place_of}
 
 abbrev pub made_living : Living → Made
-made_living c = record { ordinal = c.ordinal; writer = c.writer; number = c.number; sample = c.sample }
+made_living c = record { ordinal = c.ordinal; writer = c.writer; number = c.number; arrived = c.arrived; sample = c.sample }
 
 abbrev pub all_made : List Living → List Made
 all_made cs = map made_living cs
@@ -51,6 +51,7 @@ kept_one at depth lines all before c =
       ordinal = counted_in depth all c.sample.key c.ordinal (count_by (is_made_of c.sample.key) before + 1);
       writer = c.writer;
       number = c.number;
+      arrived = c.arrived;
       sample = c.sample;
     }
 

@@ -7,7 +7,7 @@ ghost use Rattle.dur_view.specs.History.{Start, ◌+>◌, Effect, joined, opens,
 ghost use Rattle.dur_view.specs.Entitled.{brings_over};
 
 use crate::copies::copy_held;
-use crate::{Event, Held, KeptWriter, View};
+use crate::{Held, KeptWriter, TopicEvent, View};
 use dur_base::{Entry, Guid, List, Number, OutOfMemory, Sample, SetMark, Ticks};
 use std::alloc::Global;
 
@@ -179,21 +179,22 @@ fn writer_of(entry: &Entry) -> Guid
 
 // The members of a whole set take effect, in their order.
 fn add_members(
-    events: &mut List<Event>,
+    events: &mut List<TopicEvent>,
     moment: Ticks,
     by: usize,
     writer: Guid,
     members: &[Held],
 ) -> Result<(), OutOfMemory>
-    ensures { OnOk result (events.new ≡ events.old ++ map (λ x. Effect moment by writer x.number x.sample) members.now) }
+    ensures { OnOk result (events.new ≡ events.old ++ map (λ x. Effect moment by writer x.number x.moment x.sample) members.now) }
 {
     for member in members {
         let sample = member.sample.copy()?;
-        events.push(Event::Effect {
+        events.push(TopicEvent::Effect {
             moment,
             by,
             writer,
             number: member.number,
+            arrived: member.moment,
             sample,
         })?;
     }
@@ -202,14 +203,14 @@ fn add_members(
 
 // A sample with this mark makes the set whole, unless it is one more member.
 fn add_closed(
-    events: &mut List<Event>,
+    events: &mut List<TopicEvent>,
     moment: Ticks,
     by: usize,
     writer: Guid,
     mark: SetMark,
     members: &List<Held>,
 ) -> Result<(), OutOfMemory>
-    ensures { OnOk result (events.new ≡ events.old ++ (if goes_on mark members.now then [] else map (λ x. Effect moment by writer x.number x.sample) members.now)) }
+    ensures { OnOk result (events.new ≡ events.old ++ (if goes_on mark members.now then [] else map (λ x. Effect moment by writer x.number x.moment x.sample) members.now)) }
 {
     if goes_on(mark, members) {
         return Ok(());
@@ -219,7 +220,7 @@ fn add_closed(
 
 // The sample itself takes effect where it has no mark, or the one that ends a set.
 fn add_itself(
-    events: &mut List<Event>,
+    events: &mut List<TopicEvent>,
     moment: Ticks,
     by: usize,
     writer: Guid,
@@ -232,11 +233,12 @@ fn add_itself(
         SetMark::Of(_) => Ok(()),
         _ => {
             let sample = sample.copy()?;
-            events.push(Event::Effect {
+            events.push(TopicEvent::Effect {
                 moment,
                 by,
                 writer,
                 number,
+                arrived: moment,
                 sample,
             })
         }
@@ -245,7 +247,7 @@ fn add_itself(
 
 // What an entry brings, over the members of its writer's open set.
 fn add_brought(
-    events: &mut List<Event>,
+    events: &mut List<TopicEvent>,
     by: usize,
     members: &List<Held>,
     entry: &Entry,
@@ -263,7 +265,7 @@ fn add_brought(
             add_itself(events, *moment, by, *writer, *number, sample)
         }
         Entry::Skip { .. } => Ok(()),
-        Entry::Lost { moment, .. } => events.push(Event::Gone {
+        Entry::Lost { moment, .. } => events.push(TopicEvent::Gone {
             moment: *moment,
             by,
         }),
@@ -273,7 +275,7 @@ fn add_brought(
 // Adds what an entry brings to the topic after the entries before it.
 fn add_entry(
     alloc: Global,
-    events: &mut List<Event>,
+    events: &mut List<TopicEvent>,
     start: &View,
     topic: u32,
     before: &[Entry],
@@ -295,7 +297,7 @@ pub fn effects_over(
     start: &View,
     topic: u32,
     entries: &[Entry],
-) -> Result<List<Event>, OutOfMemory>
+) -> Result<List<TopicEvent>, OutOfMemory>
     ensures { IfOk result (λ l. l ≡ effects topic (Start start.now +> entries.now)) }
 {
     let mut events = List::new(alloc);

@@ -7,7 +7,7 @@ ghost use Rattle.dur_view.specs.Snapshot.{change_of, snap};
 ghost use Rattle.dur_view.specs.Living.{made_living};
 
 use crate::living::{Living, living_over};
-use crate::{Change, Event, View};
+use crate::{Change, TopicEvent, View};
 use dur_base::{List, OutOfMemory, Ticks};
 use std::alloc::Global;
 
@@ -24,6 +24,7 @@ fn sent(change: &Living) -> Result<Change, OutOfMemory>
     Ok(Change {
         original,
         number,
+        writer: change.writer,
         sample,
     })
 }
@@ -33,7 +34,7 @@ pub fn entitled_over(
     alloc: Global,
     start: &View,
     topic: u32,
-    events: &[Event],
+    events: &[TopicEvent],
     now: Ticks,
 ) -> Result<List<Change>, OutOfMemory>
     requires { topic < length start.now.topics }

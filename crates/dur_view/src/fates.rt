@@ -7,7 +7,7 @@ ghost use Rattle.dur_view.specs.Fates.{line_in, delay, is_long, is_over_by, reac
 ghost use Rattle.dur_view.specs.Lines.{line_in_past};
 
 use crate::line::{Line, is_long};
-use crate::{Event, Instance, View};
+use crate::{Instance, TopicEvent, View};
 use dur_base::{Guid, Key, List, Number, OutOfMemory, Sample, Ticks};
 use dur_qos::Topic;
 use std::alloc::Global;
@@ -71,7 +71,7 @@ pub fn line_over(
     alloc: Global,
     start: &View,
     topic: u32,
-    events: &[Event],
+    events: &[TopicEvent],
     key: Key,
 ) -> Result<Line, OutOfMemory>
     requires { topic < length start.now.topics }
@@ -122,6 +122,7 @@ pub struct Placed<'a> {
     pub ordinal: u128,
     pub writer: Guid,
     pub number: Number,
+    pub arrived: Option<Ticks>,
     pub sample: &'a Sample,
 }
 
@@ -130,12 +131,12 @@ pub fn is_gone(
     alloc: Global,
     start: &View,
     topic: u32,
-    events: &[Event],
+    events: &[TopicEvent],
     now: Ticks,
     change: &Placed,
 ) -> Result<bool, OutOfMemory>
     requires { topic < length start.now.topics }
-    ensures { IfOk result (λ b. b ≡ has_fate (Begin (part start.now topic) ▹▹ events.now) now record { ordinal = change.now.ordinal; writer = change.now.writer; number = change.now.number; sample = change.now.sample.now }) }
+    ensures { IfOk result (λ b. b ≡ has_fate (Begin (part start.now topic) ▹▹ events.now) now record { ordinal = change.now.ordinal; writer = change.now.writer; number = change.now.number; arrived = change.now.arrived; sample = change.now.sample.now }) }
 {
     let settings = settings_of(start, topic);
     let longest = settings.delay as u64 * 4_294_967_296;

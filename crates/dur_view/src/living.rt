@@ -7,7 +7,7 @@ ghost use Rattle.dur_view.specs.Living.{made_living, all_made, living_of};
 
 use crate::fates::{Placed, is_gone, line_over};
 use crate::line::changes;
-use crate::{Event, Kept, View};
+use crate::{Kept, TopicEvent, View};
 use dur_base::{Guid, List, Number, OutOfMemory, Sample, Ticks};
 use std::alloc::Global;
 
@@ -17,6 +17,7 @@ pub struct Living {
     pub ordinal: u128,
     pub writer: Guid,
     pub number: Number,
+    pub arrived: Option<Ticks>,
     pub sample: Sample,
 }
 
@@ -26,12 +27,12 @@ fn add(
     list: &mut List<Living>,
     start: &View,
     topic: u32,
-    events: &[Event],
+    events: &[TopicEvent],
     now: Ticks,
     change: &Placed,
 ) -> Result<(), OutOfMemory>
     requires { topic < length start.now.topics }
-    ensures { OnOk result (all_made list.new ≡ all_made list.old ++ living_of (Begin (part start.now topic) ▹▹ events.now) now (record { ordinal = change.now.ordinal; writer = change.now.writer; number = change.now.number; sample = change.now.sample.now } ∷ [])) }
+    ensures { OnOk result (all_made list.new ≡ all_made list.old ++ living_of (Begin (part start.now topic) ▹▹ events.now) now (record { ordinal = change.now.ordinal; writer = change.now.writer; number = change.now.number; arrived = change.now.arrived; sample = change.now.sample.now } ∷ [])) }
 {
     if is_gone(alloc, start, topic, events, now, change)? {
         return Ok(());
@@ -41,6 +42,7 @@ fn add(
         ordinal: change.ordinal,
         writer: change.writer,
         number: change.number,
+        arrived: change.arrived,
         sample,
     })
 }
@@ -59,7 +61,7 @@ fn of_start(
     alloc: Global,
     start: &View,
     topic: u32,
-    events: &[Event],
+    events: &[TopicEvent],
     now: Ticks,
 ) -> Result<List<Living>, OutOfMemory>
     requires { topic < length start.now.topics }
@@ -72,6 +74,7 @@ fn of_start(
                 ordinal: kept.ordinal as u128,
                 writer: kept.writer,
                 number: kept.number,
+                arrived: kept.arrived,
                 sample: &kept.sample,
             };
             add(alloc, &mut list, start, topic, events, now, &change)?;
@@ -86,17 +89,18 @@ fn add_event(
     list: &mut List<Living>,
     start: &View,
     topic: u32,
-    events: &[Event],
+    events: &[TopicEvent],
     now: Ticks,
-    before: &[Event],
-    event: &Event,
+    before: &[TopicEvent],
+    event: &TopicEvent,
 ) -> Result<(), OutOfMemory>
     requires { topic < length start.now.topics }
     ensures { OnOk result (all_made list.new ≡ all_made list.old ++ living_of (Begin (part start.now topic) ▹▹ events.now) now (made_by (Begin (part start.now topic) ▹▹ before.now) event.now)) }
 {
-    if let Event::Effect {
+    if let TopicEvent::Effect {
         writer,
         number,
+        arrived,
         sample,
         ..
     } = event
@@ -107,6 +111,7 @@ fn add_event(
                 ordinal: line.changes + 1,
                 writer: *writer,
                 number: *number,
+                arrived: Some(*arrived),
                 sample,
             };
             add(alloc, list, start, topic, events, now, &change)?;
@@ -120,7 +125,7 @@ pub fn living_over(
     alloc: Global,
     start: &View,
     topic: u32,
-    events: &[Event],
+    events: &[TopicEvent],
     now: Ticks,
 ) -> Result<List<Living>, OutOfMemory>
     requires { topic < length start.now.topics }

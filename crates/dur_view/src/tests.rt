@@ -7,7 +7,7 @@ ghost use Rattle.dur_view.specs.Identities.{Key as Octets};
 ghost use Rattle.dur_view.specs.Words.{stands, topic_of, is_key_of};
 ghost use Rattle.dur_view.specs.MayAdd.{MayAdd};
 
-use crate::{Store, View};
+use crate::{View, WholeHistory};
 use bytes::Bytes;
 use dur_base::{
     Act, Entry, Form, Guid, Key, Number, OutOfMemory, Payload, Sample, SetMark, Shape, Ticks,
@@ -79,7 +79,7 @@ fn a_blank_view_has_what_the_plan_declares(rt: HostRuntime) {
 fn the_newest_of_depth_one_is_entitled(rt: HostRuntime) {
     let view = blank(rt.alloc()).expect(&rt, "memory");
     assert!(rt; view.topics.len() == 1);
-    let mut store = Store::of_view(rt.alloc(), view);
+    let mut store = WholeHistory::of_view(rt.alloc(), view);
     let first = took(rt.alloc(), Number::at(1), SetMark::NoSet).expect(&rt, "memory");
     store.restore(first).expect(&rt, "memory");
     let second = took(rt.alloc(), Number::at(2), SetMark::NoSet).expect(&rt, "memory");
@@ -89,7 +89,9 @@ fn the_newest_of_depth_one_is_entitled(rt: HostRuntime) {
         .entitled(rt.alloc(), 0, Ticks(5))
         .expect(&rt, "memory");
     match snapshot.changes.as_slice() {
-        [change] => assert!(rt; change.original == W && change.number.get() == 2),
+        [change] => {
+            assert!(rt; change.original == W && change.number.get() == 2 && change.writer == W);
+        }
         _ => assert!(rt; false),
     }
 }
@@ -98,7 +100,7 @@ fn the_newest_of_depth_one_is_entitled(rt: HostRuntime) {
 fn an_open_set_has_no_effect(rt: HostRuntime) {
     let view = blank(rt.alloc()).expect(&rt, "memory");
     assert!(rt; view.topics.len() == 1);
-    let mut store = Store::of_view(rt.alloc(), view);
+    let mut store = WholeHistory::of_view(rt.alloc(), view);
     let first = took(rt.alloc(), Number::at(1), SetMark::Of(Number::at(1))).expect(&rt, "memory");
     store.restore(first).expect(&rt, "memory");
     let open = store
@@ -128,7 +130,7 @@ fn is_keyed(view: &View, writer: Guid) -> bool
 }
 
 // The blank history of a plan with one topic, of depth 2, and this writer.
-fn begin(alloc: Global, writer: Guid) -> Option<Store>
+fn begin(alloc: Global, writer: Guid) -> Option<WholeHistory>
     ensures { IfSome result (λ s. MayAdd s writer 5) }
 {
     let text =
@@ -144,7 +146,7 @@ fn begin(alloc: Global, writer: Guid) -> Option<Store>
     if !is_keyed(&view, writer) {
         return None;
     }
-    Some(Store::of_view(alloc, view))
+    Some(WholeHistory::of_view(alloc, view))
 }
 
 fn sample(alloc: Global, key: Key, act: Act, set: SetMark) -> Option<Sample> {
@@ -163,7 +165,7 @@ fn sample(alloc: Global, key: Key, act: Act, set: SetMark) -> Option<Sample> {
 
 // Takes in the writer's next sample at moment 5.
 fn take_in(
-    store: &mut Store,
+    store: &mut WholeHistory,
     alloc: Global,
     writer: Guid,
     key: Key,
@@ -221,6 +223,7 @@ fn the_view_has_open_sets_quiet_instances_and_new_ordinals(rt: HostRuntime) {
     match view.kept.as_slice() {
         [a, b, c, d] => {
             assert!(rt; a.instance == 0 && a.ordinal == 1 && a.number.get() == 2);
+            assert!(rt; a.arrived == Some(Ticks(5)));
             assert!(rt; b.instance == 1 && b.ordinal == 1 && b.number.get() == 3);
             assert!(rt; c.instance == 0 && c.ordinal == 2 && c.number.get() == 4);
             assert!(rt; d.instance == 1 && d.ordinal == 2 && d.number.get() == 5);

@@ -47,6 +47,7 @@ fn kept_of(
         ordinal: counted(depth, first, change.ordinal, count),
         writer: change.writer,
         number: change.number,
+        arrived: change.arrived,
         sample,
     })
 }

@@ -8,7 +8,7 @@ ghost use Rattle.dur_view.specs.Past.{Begin, ◌▹▹◌, part};
 ghost use Rattle.dur_view.specs.Fates.{key_cmp, with_key, keys_by, keys};
 
 use crate::line::changes;
-use crate::{Event, View};
+use crate::{TopicEvent, View};
 use dur_base::{Key, OutOfMemory};
 use std::alloc::Global;
 use std::cmp::Ordering;
@@ -67,16 +67,16 @@ fn first_keys(alloc: Global, start: &View, topic: u32) -> Result<Vec<Key>, OutOf
 }
 
 // Adds the key of an event that is a change.
-fn add_key(keys: &mut Vec<Key>, event: &Event) -> Result<(), OutOfMemory>
+fn add_key(keys: &mut Vec<Key>, event: &TopicEvent) -> Result<(), OutOfMemory>
     ensures { OnOk result (keys.new.items ≡ keys_by event.now keys.old.items) }
 {
     match event {
-        Event::Effect { sample, .. } => if changes(sample.act) {
+        TopicEvent::Effect { sample, .. } => if changes(sample.act) {
             put(keys, sample.key)
         } else {
             Ok(())
         },
-        Event::Gone { .. } => Ok(()),
+        TopicEvent::Gone { .. } => Ok(()),
     }
 }
 
@@ -85,7 +85,7 @@ pub fn keys_over(
     alloc: Global,
     start: &View,
     topic: u32,
-    events: &[Event],
+    events: &[TopicEvent],
 ) -> Result<Vec<Key>, OutOfMemory>
     ensures { IfOk result (λ v. v.items ≡ keys (Begin (part start.now topic) ▹▹ events.now)) }
 {

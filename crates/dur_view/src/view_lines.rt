@@ -10,7 +10,7 @@ use crate::fates::{line_over, settings_of};
 use crate::line::{Line, is_long};
 use crate::living::Living;
 use crate::view_keys::keys_over;
-use crate::{Event, Instance, View};
+use crate::{Instance, TopicEvent, View};
 use dur_base::{Key, List, OutOfMemory, Ticks};
 use std::alloc::Global;
 
@@ -101,7 +101,7 @@ fn add_line(
     list: &mut List<Instance>,
     start: &View,
     topic: u32,
-    events: &[Event],
+    events: &[TopicEvent],
     now: Ticks,
     changes: &[Living],
     key: Key,
@@ -127,7 +127,7 @@ pub fn add_lines(
     list: &mut List<Instance>,
     start: &View,
     topic: u32,
-    events: &[Event],
+    events: &[TopicEvent],
     now: Ticks,
     changes: &[Living],
 ) -> Result<(), OutOfMemory>

@@ -5,7 +5,7 @@ ghost use Rattle.dur_view.specs.History.{Start, ◌+>◌, HasShortNumber};
 ghost use Rattle.dur_view.specs.View.{line_after};
 
 use crate::effects::held_over;
-use crate::store::next_over;
+use crate::whole_history::next_over;
 use crate::{KeptWriter, View};
 use dur_base::{Entry, List, OutOfMemory};
 use std::alloc::Global;

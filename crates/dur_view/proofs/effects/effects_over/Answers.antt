@@ -1,5 +1,5 @@
 use Rattle.std.proofs.Common.{◌++◌, List, take, sym, ap, ◌∙◌}
-use Rattle.dur_view.specs.declared.change.Event.{Event}
+use Rattle.dur_view.specs.declared.change.TopicEvent.{TopicEvent}
 use Rattle.dur_view.specs.History.{Start, ◌+>◌, effects}
 use Rattle.dur_view.specs.Entitled.{brings_over}
 use Rattle.dur_view.specs.Extend.{extend-more}
@@ -13,5 +13,5 @@ loop-at-preserved c =
     let x = take c.loop-at.at c.args.entries.now in
     let e = c.index-entries-at.result in
     let more = extend-more (Start v) c.args.entries.now c.loop-at.at e c.loop-at-test.true c.index-entries-at.is in
-    c.in_ok-add_entry.ensures ∙ ap (λ (l : List Event). l ++ brings_over t v x e) c.loop-at.invariant
-    ∙ ap (λ (l : List Event). effects t (Start v +> x) ++ l) (sym (brings-over t v x e)) ∙ ap (λ h. effects t h) (sym more)
+    c.in_ok-add_entry.ensures ∙ ap (λ (l : List TopicEvent). l ++ brings_over t v x e) c.loop-at.invariant
+    ∙ ap (λ (l : List TopicEvent). effects t (Start v +> x) ++ l) (sym (brings-over t v x e)) ∙ ap (λ h. effects t h) (sym more)
