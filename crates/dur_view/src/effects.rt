@@ -76,7 +76,7 @@ fn join(
 }
 
 // The members of the writer's open set after an entry.
-fn held_after(
+pub fn held_after(
     alloc: Global,
     entry: &Entry,
     writer: Guid,
@@ -145,7 +145,7 @@ pub fn held_over(
     Ok(members)
 }
 
-fn topic_of(start: &View, writer: Guid) -> u32
+pub fn topic_of(start: &View, writer: Guid) -> u32
     ensures { result ≡ topic_of start.now writer }
 {
     match line_of(start, writer) {
@@ -273,7 +273,7 @@ fn add_brought(
 }
 
 // Adds what an entry brings to the topic after the entries before it.
-fn add_entry(
+pub fn add_entry(
     alloc: Global,
     events: &mut List<TopicEvent>,
     start: &View,
