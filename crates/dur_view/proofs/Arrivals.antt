@@ -23,6 +23,7 @@ use Rattle.dur_view.proofs.SoundNumbersEvents.{EachEvent, each-append, each-cond
 use Rattle.dur_view.proofs.SoundNumbersPast.{Makes, made-extend}
 use Rattle.dur_view.proofs.SoundNumbersStart.{each-kept}
 use Rattle.dur_view.proofs.SoundNumbersKept.{alive, all-append, all-from}
+use Rattle.dur_view.proofs.TestsDecide.{sound-passes}
 
 -- the change arrived at the moment or before it
 abbrev pub ArrivedBy : ℕ → Made → Type 0
@@ -59,7 +60,7 @@ brought-arrived t h e follow next =
 
 -- The changes of a history arrived at its last moment or before it.
 pub arrived-past : (t : ℕ) (h : History) → IsHistory h → Each (ArrivedBy (moment h)) (made (past t h))
-arrived-past t (Start v) sound = each-kept (ArrivedBy v.last) (λ c. nat_le (unwrap_or c.arrived 0) v.last) (is_kept_of v t) v.kept (λ c here is. is) sound.arrived_early
+arrived-past t (Start v) sound = each-kept (ArrivedBy v.last) (λ c. nat_le (unwrap_or c.arrived 0) v.last) (is_kept_of v t) v.kept (λ c here is. is) (sound-passes v sound).arrived_early
 arrived-past t (h ▸ e) follow =
     made-extend (ArrivedBy (moment_of e)) (past t h) (brings_to t h e) (brought-arrived t h e follow.0 follow.1)
     (Each-weaken (ArrivedBy (moment h)) (ArrivedBy (moment_of e)) (λ c by. arrived-later (moment h) (moment_of e) c follow.1.later by) (made (past t h)) (arrived-past t h follow.0))

@@ -12,12 +12,14 @@ use Rattle.dur_qos.specs.Plan.{has_writer}
 use Rattle.dur_qos.specs.Good.{GoodPlan, EachIsNew, IsGoodWriter}
 use Rattle.dur_view.specs.declared.data.KeptWriter.{KeptWriter}
 use Rattle.dur_view.specs.Words.{is_same, is_key_of}
-use Rattle.dur_view.specs.IsSound.{IsSound, each_two, is_open_set}
+use Rattle.dur_view.specs.IsSound.{IsSound}
+use Rattle.dur_view.proofs.SoundTests.{PassesTests, each_two, is_open_set}
 use Rattle.dur_view.specs.Full.{blank, first_line}
 use Rattle.dur_view.proofs.BlankViews.{blank-is}
 use Rattle.dur_view.proofs.EachTwo.{two-new, two-map}
-use Rattle.dur_view.proofs.GoodTopics.{good-topics, turned}
+use Rattle.dur_view.proofs.GoodTopics.{topics-pass, turned}
 use Rattle.dur_view.proofs.SoundWriterLaws.{and-both}
+use Rattle.dur_view.proofs.TestsDecide.{passes-sound}
 
 -- what holds of each first line
 all-first : (test : KeptWriter → Bool) (ws : List WriterLine) → AllByRecursion (λ w. test (first_line w) ≡ true) ws → list_all test (map first_line ws) ≡ true
@@ -53,7 +55,7 @@ others (s ∷ seen) w none =
 all-differ : (ws : List WriterLine) → EachIsNew (λ seen w. has_writer w.guid seen ≡ false) [] ws → each_two differ (map first_line ws) ≡ true
 all-differ ws new = two-map differ first_line ws ∙ two-new (λ a b. differ (first_line a) (first_line b)) (λ seen w. has_writer w.guid seen ≡ false) others [] ws new refl
 
-sound-lines : (plan : Plan) → GoodPlan plan → IsSound record { last = 0; topics = plan.topics; writers = map first_line plan.writers; instances = []; kept = [] }
+sound-lines : (plan : Plan) → GoodPlan plan → PassesTests record { last = 0; topics = plan.topics; writers = map first_line plan.writers; instances = []; kept = [] }
 sound-lines plan good =
     let ws = plan.writers in
     let few = good.writer_count in
@@ -77,7 +79,7 @@ sound-lines plan good =
       ordinals_begin = refl;
       few = refl;
       registered_here = refl;
-      topics = good-topics plan good;
+      topics = topics-pass plan good;
       samples_held = good-first ws;
       samples_kept = tt;
       keys_held = always-first (λ w. list_all (λ x. is_key_of plan.topics w.topic x.sample.key) w.held) (λ w. refl) ws;
@@ -86,4 +88,4 @@ sound-lines plan good =
     }
 
 pub sound-blank : (plan : Plan) → GoodPlan plan → IsSound (blank plan)
-sound-blank plan good = subst IsSound (sym (blank-is plan good)) (sound-lines plan good)
+sound-blank plan good = subst IsSound (sym (blank-is plan good)) (passes-sound _ (sound-lines plan good))

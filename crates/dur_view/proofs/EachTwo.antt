@@ -3,7 +3,7 @@ use Rattle.std.proofs.Common.{◌≡◌, Bool, true, ◌&&◌, List, [], ◌∷�
 use Rattle.std.specs.List.{list_all, AllByRecursion}
 use Rattle.std.proofs.lemmas.Bool.{and_parts}
 use Rattle.dur_qos.specs.Good.{EachIsNew}
-use Rattle.dur_view.specs.IsSound.{each_two}
+use Rattle.dur_view.proofs.SoundTests.{each_two}
 use Rattle.dur_view.proofs.SoundWriterLaws.{and-both}
 
 -- one more at the end

@@ -18,7 +18,8 @@ use Rattle.dur_view.specs.declared.data.View.{View}
 use Rattle.dur_view.specs.Words.{is_same, writer_line, stands, topic_of, place_in}
 use Rattle.dur_view.specs.History.{History, Start, ◌▸◌, start, next, next_by, held, held_by, writer_of, brings, brings_to, TopicEvent}
 use Rattle.dur_view.specs.Past.{Past, Begin, ◌▹▹◌, Part, past, part, made_of, is_kept_of, no_topic}
-use Rattle.dur_view.specs.IsSound.{IsSound, IsHistory}
+use Rattle.dur_view.specs.IsSound.{IsHistory}
+use Rattle.dur_view.proofs.SoundTests.{PassesTests}
 use Rattle.dur_view.specs.View.{view, line_after, lines_at, kept_of, instances_upto, kept_upto}
 use Rattle.dur_view.specs.Full.{full, filled, more_topics, more_writers, new_writer}
 use Rattle.dur_view.proofs.SameEffects.{is_same-true, SameSets-view}
@@ -26,6 +27,7 @@ use Rattle.dur_view.proofs.KeptChanges.{get-left}
 use Rattle.dur_view.proofs.Parts.{AllStand, all-stand}
 use Rattle.dur_view.proofs.LineLaws.{map-append}
 use Rattle.dur_view.proofs.Base.{at_or_below}
+use Rattle.dur_view.proofs.TestsDecide.{sound-passes}
 
 filled-start : (plan : Plan) (h : History) → start (filled plan h) ≡ full plan (start h)
 filled-start plan (Start v) = refl
@@ -86,8 +88,8 @@ past-stays plan t (h ▸ e) follow lt =
     ap (λ p. p ▹▹ brings_to t (filled plan h) e) (past-stays plan t h follow.0 lt)
     ∙ ap (λ (l : List TopicEvent). past t h ▹▹ l) (brings-stays plan t h e follow.1.known)
 
-pub sound-of : (h : History) → IsHistory h → IsSound (start h)
-sound-of (Start v) sound = sound
+pub sound-of : (h : History) → IsHistory h → PassesTests (start h)
+sound-of (Start v) sound = sound-passes v sound
 sound-of (h ▸ e) follow = sound-of h follow.0
 
 -- nothing stands in a topic that the start lacks
@@ -127,7 +129,7 @@ topic-below n (line ∷ ws) w all some =
     let parts = and_parts (nat_lt line.topic n) (list_all (λ (x : KeptWriter). nat_lt x.topic n) ws) all in
     topic-below-at n line (writer_line ws w) (is_same line.guid w) parts.0 (topic-below n ws w parts.1) some
 
-brings-none : (plan : Plan) (t : ℕ) (h : History) (e : Entry) → IsSound (start h) → length (start h).topics ≤ t → stands (start h) (writer_of e) ≡ true → brings_to t (filled plan h) e ≡ []
+brings-none : (plan : Plan) (t : ℕ) (h : History) (e : Entry) → PassesTests (start h) → length (start h).topics ≤ t → stands (start h) (writer_of e) ≡ true → brings_to t (filled plan h) e ≡ []
 brings-none plan t h e sound le there =
     let v = start h in
     let n = length v.topics in
@@ -140,7 +142,8 @@ abbrev empty_past : Plan → View → ℕ → Past
 empty_past plan v t = Begin record { settings = unwrap_or (slice_get (v.topics ++ more_topics plan v.topics) t) no_topic; lines = []; kept = [] }
 
 past-above : (plan : Plan) (t : ℕ) (h : History) → IsHistory h → length (start h).topics ≤ t → past t (filled plan h) ≡ empty_past plan (start h) t
-past-above plan t (Start v) sound le =
+past-above plan t (Start v) follow le =
+    let sound = sound-passes v follow in
     let n = length v.topics in
     let rest = (and_parts (list_all (λ (w : KeptWriter). nat_lt w.topic n) v.writers) _ sound.in_range).1 in
     let all = (and_parts (list_all (inside n (length v.writers)) v.instances) _ rest).0 in

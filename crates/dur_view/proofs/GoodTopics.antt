@@ -8,7 +8,9 @@ use Rattle.dur_qos.specs.declared.plan.Topic.{Topic}
 use Rattle.dur_qos.specs.Plan.{place_of, place_from}
 use Rattle.dur_qos.specs.Good.{GoodPlan}
 use Rattle.dur_view.specs.IsSound.{GoodTopics}
+use Rattle.dur_view.proofs.SoundTests.{TopicsPass}
 use Rattle.dur_view.proofs.EachTwo.{two-new}
+use Rattle.dur_view.proofs.TestsDecide.{pass-good}
 
 abbrev differ : Topic → Topic → Bool
 differ a b = not (bytes_eq a.name b.name)
@@ -29,11 +31,14 @@ others j (s ∷ seen) t none =
     let here = other-at j (bytes_eq t.name s.name) (place_from (j + 1) t.name seen) none in
     (ap not (turned s.name t.name (bytes_eq s.name t.name) refl here.0), others (j + 1) seen t here.1)
 
-pub good-topics : (plan : Plan) → GoodPlan plan → GoodTopics plan.topics
-good-topics plan good =
+pub topics-pass : (plan : Plan) → GoodPlan plan → TopicsPass plan.topics
+topics-pass plan good =
     record {
       each = good.topics;
       depths = good.depths;
       names = two-new differ (λ seen t. place_of t.name seen ≡ None) (others 0) [] plan.topics good.names refl;
       count = good.topic_count;
     }
+
+pub good-topics : (plan : Plan) → GoodPlan plan → GoodTopics plan.topics
+good-topics plan good = pass-good plan.topics (topics-pass plan good)

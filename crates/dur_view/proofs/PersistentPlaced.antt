@@ -17,7 +17,8 @@ use Rattle.dur_view.specs.Words.{is_key, topic_of, place_in}
 use Rattle.dur_view.specs.History.{History, Start, ◌▸◌, start, held, writer_of, goes_on, itself, brings, brings_to, TopicEvent, Effect}
 use Rattle.dur_view.specs.Past.{Past, Begin, ◌▹◌, ◌▹▹◌, past, part}
 use Rattle.dur_view.specs.Fates.{line_in}
-use Rattle.dur_view.specs.IsSound.{IsSound, IsHistory}
+use Rattle.dur_view.specs.IsSound.{IsHistory}
+use Rattle.dur_view.proofs.SoundTests.{PassesTests}
 use Rattle.dur_view.specs.Persistent.{passes_at, writer_stays}
 use Rattle.dur_view.proofs.SoundViews.{all-found, all-filter}
 use Rattle.dur_view.proofs.SoundWriterLaws.{and-both}
@@ -25,6 +26,7 @@ use Rattle.dur_view.proofs.PersistentPlaces.{among-less, among-same}
 use Rattle.dur_view.proofs.PersistentWriters.{place-stays}
 use Rattle.dur_view.proofs.PersistentParts.{persistent_topic, writer_place}
 use Rattle.dur_view.proofs.PersistentFates.{KeepsOrder, Placed, place_by}
+use Rattle.dur_view.proofs.TestsDecide.{sound-passes}
 
 -- whether the writer at a place stays
 abbrev pub place_stays : View → ℕ → Bool
@@ -61,7 +63,7 @@ start-at v t None stay topic here = refl
 start-at v t (Some line) stay topic here =
     here-all v t line.registered stay (ap (λ u. list_all (is_here v u) line.registered) (sym (eqb-true line.topic t (topic line refl))) ∙ here line refl)
 
-placed-start : (v : View) (t : ℕ) → IsSound v → persistent_topic v t ≡ true → Placed (place_stays v) (Begin (part v t))
+placed-start : (v : View) (t : ℕ) → PassesTests v → persistent_topic v t ≡ true → Placed (place_stays v) (Begin (part v t))
 placed-start v t sound stay k =
     start-at v t (line_in (part v t).lines k) stay
     (λ line found. all-found (λ i. i.topic == t) (λ i. is_key i.key k) (part v t).lines line (filter-all (λ i. i.topic == t) v.instances) found)
@@ -103,7 +105,7 @@ placed-if passes es true all = all refl
 placed-if passes es false all = tt
 
 pub placed-past : (h : History) (t : ℕ) → IsHistory h → persistent_topic (start h) t ≡ true → Placed (place_stays (start h)) (past t h)
-placed-past (Start v) t sound stay = placed-start v t sound stay
+placed-past (Start v) t sound stay = placed-start v t (sound-passes v sound) stay
 placed-past (h ▸ e) t follow stay =
     let v = start h in
     let w = writer_of e in

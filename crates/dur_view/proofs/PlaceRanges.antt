@@ -20,9 +20,11 @@ use Rattle.dur_view.specs.Words.{is_same, is_key, writer_line, place_in, topic_o
 use Rattle.dur_view.specs.History.{History, Start, ◌▸◌, start, held, writer_of, TopicEvent, Effect, Gone, itself, goes_on, brings, brings_to}
 use Rattle.dur_view.specs.Past.{Past, Begin, ◌▹◌, ◌▹▹◌, past, part}
 use Rattle.dur_view.specs.Fates.{line_in, registered, registered_by, with_place}
-use Rattle.dur_view.specs.IsSound.{IsSound, IsHistory}
+use Rattle.dur_view.specs.IsSound.{IsHistory}
+use Rattle.dur_view.proofs.SoundTests.{PassesTests}
 use Rattle.dur_view.proofs.SoundViews.{all-found, all-filter}
 use Rattle.dur_view.proofs.FullViews.{sound-of}
+use Rattle.dur_view.proofs.TestsDecide.{sound-passes}
 
 abbrev Below : ℕ → List ℕ → Type 0
 Below n places = AllByRecursion (λ r. r < n) places
@@ -101,7 +103,7 @@ below-line : (n : ℕ) (o : Option Instance) → ((line : Instance) → o ≡ So
 below-line n None all = tt
 below-line n (Some line) all = all line refl
 
-below-begin : (v : View) (t : ℕ) (k : Key) → IsSound v → Below (length v.writers) (registered (Begin (part v t)) k)
+below-begin : (v : View) (t : ℕ) (k : Key) → PassesTests v → Below (length v.writers) (registered (Begin (part v t)) k)
 below-begin v t k sound =
     let n = length v.writers in
     let inside : Instance → Bool = λ i. nat_lt i.topic (length v.topics) && list_all (λ r. nat_lt r n) i.registered in
@@ -112,7 +114,7 @@ below-begin v t k sound =
     (and_parts (nat_lt line.topic (length v.topics)) (list_all (λ r. nat_lt r n) line.registered) (all-found inside (λ i. is_key i.key k) (part v t).lines line (all-filter inside (λ i. i.topic == t) v.instances all) found)).1)
 
 below-past : (t : ℕ) (h : History) (k : Key) → IsHistory h → Below (length (start h).writers) (registered (past t h) k)
-below-past t (Start v) k sound = below-begin v t k sound
+below-past t (Start v) k sound = below-begin v t k (sound-passes v sound)
 below-past t (h ▸ e) k follow =
     let n = length (start h).writers in
     below-extend n (past t h) (brings_to t h e) k

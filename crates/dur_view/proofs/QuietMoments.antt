@@ -11,9 +11,11 @@ use Rattle.dur_view.specs.Words.{is_key}
 use Rattle.dur_view.specs.History.{History, Start, ◌▸◌, moment, moment_of, brings_to, TopicEvent}
 use Rattle.dur_view.specs.Past.{Past, ◌▹◌, ◌▹▹◌, past, part}
 use Rattle.dur_view.specs.Fates.{line_in, is_of, time_of, is_quiet, quiet_since}
-use Rattle.dur_view.specs.IsSound.{IsHistory, at_most}
+use Rattle.dur_view.specs.IsSound.{IsHistory}
+use Rattle.dur_view.proofs.SoundTests.{at_most}
 use Rattle.dur_view.proofs.SoundViews.{all-found, all-filter}
 use Rattle.dur_view.proofs.SoundNumbersEvents.{EachEvent, each-brings_to}
+use Rattle.dur_view.proofs.TestsDecide.{sound-passes}
 
 -- when the stretch began, or 0
 abbrev pub began : Past → Key → ℕ
@@ -38,7 +40,7 @@ began-begin (Some i) last all = leb-true (unwrap_or i.quiet 0) last (all i refl)
 pub began-past : (t : ℕ) (h : History) (k : Key) → IsHistory h → began (past t h) k ≤ moment h
 began-past t (Start v) k sound =
     let early : Instance → Bool = λ i. at_most (Some v.last) (unwrap_or i.quiet 0) in
-    let all = (and_parts (list_all (λ (w : KeptWriter). list_all (λ (x : Held). nat_le x.moment v.last) w.held) v.writers) (list_all early v.instances) sound.early).1 in
+    let all = (and_parts (list_all (λ (w : KeptWriter). list_all (λ (x : Held). nat_le x.moment v.last) w.held) v.writers) (list_all early v.instances) (sound-passes v sound).early).1 in
     began-begin (line_in (part v t).lines k) v.last
     (λ i found. all-found early (λ l. is_key l.key k) (part v t).lines i (all-filter early (λ l. l.topic == t) v.instances all) found)
 began-past t (h ▸ e) k follow =

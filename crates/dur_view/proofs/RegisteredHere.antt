@@ -17,6 +17,7 @@ use Rattle.dur_view.specs.View.{line_after}
 use Rattle.dur_view.proofs.SoundWriterLaws.{and-both}
 use Rattle.dur_view.proofs.SoundViews.{all-found}
 use Rattle.dur_view.proofs.SoundNumbersEvents.{EachEvent, each-brings_to}
+use Rattle.dur_view.proofs.TestsDecide.{sound-passes}
 
 -- whether a writer of the topic stands at the place
 abbrev pub is_here : List KeptWriter → ℕ → ℕ → Bool
@@ -96,7 +97,7 @@ here-past t (Start v) k sound =
     let own : Instance → Bool = λ i. i.topic == t in
     here-begin v.writers t (line_in (part v t).lines k)
     (λ i found.
-    let all = all-found here (λ l. is_key l.key k) (part v t).lines i (all-keep here own v.instances sound.registered_here) found in
+    let all = all-found here (λ l. is_key l.key k) (part v t).lines i (all-keep here own v.instances (sound-passes v sound).registered_here) found in
     let topic = eqb-true i.topic t (all-found own (λ l. is_key l.key k) (part v t).lines i (all-chosen own v.instances) found) in
     subst (λ u. list_all (is_here v.writers u) i.registered ≡ true) topic all)
 here-past t (h ▸ e) k follow =

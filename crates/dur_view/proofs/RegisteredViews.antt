@@ -6,7 +6,8 @@ use Rattle.std.proofs.lemmas.Bool.{and_parts, le-leb, lt-ltb}
 use Rattle.dur_view.specs.History.{History, start, moment}
 use Rattle.dur_view.specs.Past.{past}
 use Rattle.dur_view.specs.Fates.{registered}
-use Rattle.dur_view.specs.IsSound.{IsHistory, at_most}
+use Rattle.dur_view.specs.IsSound.{IsHistory}
+use Rattle.dur_view.proofs.SoundTests.{at_most}
 use Rattle.dur_view.specs.View.{view, line_after}
 use Rattle.dur_view.proofs.SoundWriterLaws.{and-both, length-lines}
 use Rattle.dur_view.proofs.SoundInstanceLaws.{all-upto}

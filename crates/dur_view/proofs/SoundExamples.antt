@@ -7,7 +7,9 @@ use Rattle.dur_base.specs.declared.sample.SetMark.TheVariants.{NoSet, Of}
 use Rattle.dur_base.specs.Goodness.{IsGood, IsMark, IsLifespan}
 use Rattle.dur_qos.specs.Good.{IsLimit}
 use Rattle.dur_qos.specs.Plan.{is_above}
-use Rattle.dur_view.specs.IsSound.{IsSound, IsHistory, GoodTopics}
+use Rattle.dur_view.specs.IsSound.{IsSound, IsHistory}
+use Rattle.dur_view.proofs.SoundTests.{PassesTests, TopicsPass}
+use Rattle.dur_view.proofs.TestsDecide.{passes-sound}
 use Rattle.dur_view.specs.Sound.{Continues}
 use Rattle.dur_view.specs.View.{view}
 use Rattle.dur_view.proofs.ExampleHistories.{aa, sample, wrote, of_depth, blank_of}
@@ -16,7 +18,7 @@ use Rattle.dur_view.proofs.WrongReadings.{one_of_two, one_kept_of_two, keeping_n
 use Rattle.dur_view.proofs.ViewsAreSound.{sound-view}
 
 -- a topic without limits is as the lines of a plan allow
-good-topic : (depth : Option ℕ) → IsLimit depth → GoodTopics (of_depth depth ∷ [])
+good-topic : (depth : Option ℕ) → IsLimit depth → TopicsPass (of_depth depth ∷ [])
 good-topic depth limit =
     record {
       each = (record { name = refl; kind = omega arith; depth = limit; max_samples = tt; max_instances = tt; max_per_instance = tt; max_held = tt; delay = omega arith }, tt);
@@ -34,9 +36,12 @@ good-write : (m : ℕ) (lifespan : Option ℕ) (mark : SetMark) → IsLifespan l
 good-write m lifespan mark lives marked = record { lifespan = lives; mark = marked; original = tt; payload = omega arith; act = refl }
 
 -- The blank start of one topic is sound, and begins a history.
-sound-blank-of : (depth : Option ℕ) → IsLimit depth → IsSound (blank_of (of_depth depth))
-sound-blank-of depth limit =
+blank-passes : (depth : Option ℕ) → IsLimit depth → PassesTests (blank_of (of_depth depth))
+blank-passes depth limit =
     record { in_range = refl; differ = refl; instances_in_order = refl; registered_in_order = refl; kept_in_order = refl; sets_open = refl; quiet = refl; early = refl; arrived_early = refl; keys = refl; numbers_rise = refl; numbers_below = refl; ordinals_within = refl; ordinals_rise = refl; ordinals_begin = refl; few = refl; registered_here = refl; topics = good-topic depth limit; samples_held = (tt, tt); samples_kept = tt; keys_held = refl; keys_zero = refl; writer_count = omega arith }
+
+sound-blank-of : (depth : Option ℕ) → IsLimit depth → IsSound (blank_of (of_depth depth))
+sound-blank-of depth limit = passes-sound (blank_of (of_depth depth)) (blank-passes depth limit)
 
 -- An open set stands in a history,
 history-of-two : IsHistory of_two
@@ -71,6 +76,9 @@ sound-one-of-two : IsSound one_kept_of_two
 sound-one-of-two = sound-view one_of_two 5 history-one-of-two (omega arith)
 
 -- A sound start may count changes of which it keeps none: its view counts 0.
-sound-keeping-none : IsSound keeping_none
-sound-keeping-none =
+keeping-none-passes : PassesTests keeping_none
+keeping-none-passes =
     record { in_range = refl; differ = refl; instances_in_order = refl; registered_in_order = refl; kept_in_order = refl; sets_open = refl; quiet = refl; early = refl; arrived_early = refl; keys = refl; numbers_rise = refl; numbers_below = refl; ordinals_within = refl; ordinals_rise = refl; ordinals_begin = refl; few = refl; registered_here = refl; topics = good-topic (Some 2) (omega arith, omega arith); samples_held = (tt, tt); samples_kept = tt; keys_held = refl; keys_zero = refl; writer_count = omega arith }
+
+sound-keeping-none : IsSound keeping_none
+sound-keeping-none = passes-sound keeping_none keeping-none-passes

@@ -15,7 +15,7 @@ use Rattle.dur_view.specs.History.{History, Start, ◌▸◌, start, brings_to, 
 use Rattle.dur_view.specs.Past.{Past, Begin, ◌▹◌, ◌▹▹◌, past, part}
 use Rattle.dur_view.specs.Fates.{line_in, is_of, time_of, registered, registered_by, with_place, is_nobody, is_quiet, quiet_since, exists, keys, existing, key_cmp}
 use Rattle.dur_view.specs.Sound.{EachKey, Ascending}
-use Rattle.dur_view.specs.IsSound.{IsSound, each_two, is_same_bool}
+use Rattle.dur_view.proofs.SoundTests.{PassesTests, each_two, is_same_bool}
 use Rattle.dur_view.specs.View.{view, line_of, lines_at, instances_upto}
 use Rattle.dur_view.proofs.SoundRules.{SoundInstances}
 use Rattle.dur_view.proofs.SoundWriterLaws.{and-both}
@@ -29,7 +29,7 @@ quiet-begin-at : (o : Option Instance) → ((line : Instance) → o ≡ Some lin
 quiet-begin-at None all = refl
 quiet-begin-at (Some line) all = same-bool (is_some line.quiet) (line.disposed && is_nobody line.registered) (all line refl)
 
-quiet-begin : (v : View) (t : ℕ) (k : Key) → IsSound v → is_some (quiet_since (Begin (part v t)) k) ≡ is_quiet (Begin (part v t)) k
+quiet-begin : (v : View) (t : ℕ) (k : Key) → PassesTests v → is_some (quiet_since (Begin (part v t)) k) ≡ is_quiet (Begin (part v t)) k
 quiet-begin v t k sound =
     quiet-begin-at (line_in (part v t).lines k)
     (λ line found. all-found (λ i. is_same_bool (is_some i.quiet) (i.disposed && is_nobody i.registered)) (λ i. is_key i.key k) (part v t).lines line
@@ -48,7 +48,7 @@ quiet-extend : (p : Past) (es : List TopicEvent) (k : Key) → is_some (quiet_si
 quiet-extend p [] k is = is
 quiet-extend p (e ∷ es) k is = quiet-extend (p ▹ e) es k (quiet-step p e k is)
 
-quiet-past : (t : ℕ) (h : History) (k : Key) → IsSound (start h) → is_some (quiet_since (past t h) k) ≡ is_quiet (past t h) k
+quiet-past : (t : ℕ) (h : History) (k : Key) → PassesTests (start h) → is_some (quiet_since (past t h) k) ≡ is_quiet (past t h) k
 quiet-past t (Start v) k sound = quiet-begin v t k sound
 quiet-past t (h ▸ e) k sound = quiet-extend (past t h) (brings_to t h e) k (quiet-past t h k sound)
 
@@ -134,7 +134,7 @@ rise-begin-at : (o : Option Instance) → ((line : Instance) → o ≡ Some line
 rise-begin-at None all = refl
 rise-begin-at (Some line) all = all line refl
 
-rise-past : (t : ℕ) (h : History) (k : Key) → IsSound (start h) → each_two nat_lt (registered (past t h) k) ≡ true
+rise-past : (t : ℕ) (h : History) (k : Key) → PassesTests (start h) → each_two nat_lt (registered (past t h) k) ≡ true
 rise-past t (Start v) k sound =
     rise-begin-at (line_in (part v t).lines k)
     (λ line found. all-found (λ i. each_two nat_lt i.registered) (λ i. is_key i.key k) (part v t).lines line
@@ -195,7 +195,7 @@ order-cross u t m p q x (k ∷ ks) lt =
     and-both (in_order (line_of p u m x) (line_of q t m k)) (list_all (in_order (line_of p u m x)) (map (line_of q t m) ks))
     (or_left (nat_lt u t) ((u == t) && is_lt (key_cmp x k)) (lt-ltb u t lt)) (order-cross u t m p q x ks lt)
 
-order-upto : (n : ℕ) (h : History) (m : ℕ) → IsSound (start h) → each_two in_order (instances_upto n h m) ≡ true
+order-upto : (n : ℕ) (h : History) (m : ℕ) → PassesTests (start h) → each_two in_order (instances_upto n h m) ≡ true
 order-upto zero h m sound = refl
 order-upto (suc t) h m sound =
     order-append (instances_upto t h m) (lines_at t (past t h) m) (order-upto t h m sound)
@@ -203,7 +203,7 @@ order-upto (suc t) h m sound =
     (all-upto (λ x. list_all (in_order x) (lines_at t (past t h) m)) t h m (λ u k lt. order-cross u t m (past u h) (past t h) k (existing (past t h) m) lt))
 
 -- The law.
-pub sound-instances : (h : History) (m : ℕ) → IsSound (start h) → SoundInstances (view h m)
+pub sound-instances : (h : History) (m : ℕ) → PassesTests (start h) → SoundInstances (view h m)
 sound-instances h m sound =
     let n = length (start h).topics in
     record {

@@ -12,7 +12,8 @@ use Rattle.dur_view.specs.Past.{Made, Past, past, no_topic}
 use Rattle.dur_view.specs.Fates.{settings, count, reaches, is_expired, is_displaced, is_purged_with, has_fate, made, living, exists, keys, existing}
 use Rattle.dur_view.specs.View.{is_made_of, counted, changes_of, line_of, lines_at, instances_upto}
 use Rattle.dur_view.specs.Sound.{EachKey}
-use Rattle.dur_view.specs.IsSound.{IsHistory, at_most}
+use Rattle.dur_view.specs.IsSound.{IsHistory}
+use Rattle.dur_view.proofs.SoundTests.{at_most}
 use Rattle.dur_view.proofs.Base.{is_key-true}
 use Rattle.dur_view.proofs.Keys.{EachKey-filter}
 use Rattle.dur_view.proofs.Parts.{settings-past}

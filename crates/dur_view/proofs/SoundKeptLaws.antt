@@ -10,7 +10,8 @@ use Rattle.dur_view.specs.declared.data.View.{View}
 use Rattle.dur_view.specs.Words.{is_key, is_change}
 use Rattle.dur_view.specs.History.{History, start}
 use Rattle.dur_view.specs.Past.{past}
-use Rattle.dur_view.specs.IsSound.{IsHistory, each_two, instance_says, topic_at}
+use Rattle.dur_view.specs.IsSound.{IsHistory, topic_at}
+use Rattle.dur_view.proofs.SoundTests.{each_two, instance_says}
 use Rattle.dur_view.specs.View.{view, instances_upto, kept_of, kept_upto}
 use Rattle.dur_view.proofs.Base.{at_or_below}
 use Rattle.dur_view.proofs.KeptChanges.{fits-before}

@@ -10,7 +10,7 @@ use Rattle.dur_view.specs.Past.{Made, Past}
 use Rattle.dur_view.specs.Fates.{settings, exists, has_fate, made, living}
 use Rattle.dur_view.specs.View.{is_made_of, counted, line_of, lines_at, place_of, kept_from, kept_of}
 use Rattle.dur_view.specs.Sound.{Each, Rises, Ordered}
-use Rattle.dur_view.specs.IsSound.{each_two}
+use Rattle.dur_view.proofs.SoundTests.{each_two}
 use Rattle.dur_view.proofs.Pairs.{is_key-refl}
 use Rattle.dur_view.proofs.KeptChanges.{Each-filter, First, first-of, Rises-filter, count-before, living-exists}
 use Rattle.dur_view.proofs.SoundViews.{ord_less}

@@ -13,13 +13,15 @@ use Rattle.dur_view.specs.Words.{is_key, is_change, is_key_of}
 use Rattle.dur_view.specs.History.{History, Start, ◌▸◌, start, brings_to}
 use Rattle.dur_view.specs.Past.{Made, Begin, past, part, made_of, is_kept_of}
 use Rattle.dur_view.specs.Sound.{Each, EachKey}
-use Rattle.dur_view.specs.IsSound.{IsSound, IsHistory, each_two, instance_says}
+use Rattle.dur_view.specs.IsSound.{IsHistory}
+use Rattle.dur_view.proofs.SoundTests.{PassesTests, each_two, instance_says}
 use Rattle.dur_view.proofs.Pairs.{is_key-refl}
 use Rattle.dur_view.proofs.Base.{is_key-true}
 use Rattle.dur_view.proofs.SoundViews.{stands-of, says-of, same-place, ord_less, keyed, sound_parts}
 use Rattle.dur_view.proofs.Parts.{Ordered-past}
 use Rattle.dur_view.proofs.FullViews.{sound-of}
 use Rattle.dur_view.proofs.SoundKeptPast.{IsBefore, Climbs, IsGoodChange, Proper, Proper-extend, good-brings_to}
+use Rattle.dur_view.proofs.TestsDecide.{sound-passes}
 
 -- what is known of those of a topic
 each-part-at : (P : Made → Type 0) (c : Kept) (cs : List Kept) (b : Bool) → P (made_of c) → Each P (map made_of cs) → Each P (map made_of (cond b (c ∷ cs) cs))
@@ -34,7 +36,7 @@ good-changes v test (c ∷ cs) keys good =
     each-part-at IsGoodChange c (filter test cs) (test c) (one.1, good.0) (good-changes v test cs parts.1 good.1)
 
 -- kept changes of one key are of one instance, in which ordinals rise
-before-one : (v : View) (t : ℕ) (c d : Kept) → IsSound v → is_kept_of v t c ≡ true → is_kept_of v t d ≡ true → keyed v c ≡ true → keyed v d ≡ true → ord_less c d ≡ true → IsBefore (made_of c) (made_of d)
+before-one : (v : View) (t : ℕ) (c d : Kept) → PassesTests v → is_kept_of v t c ≡ true → is_kept_of v t d ≡ true → keyed v c ≡ true → keyed v d ≡ true → ord_less c d ≡ true → IsBefore (made_of c) (made_of d)
 before-one v t c d sound ic id kc kd less = λ same.
     let sc = stands-of v t c ic in
     let sd = stands-of v t d id in
@@ -51,7 +53,7 @@ before-at : (c d : Kept) (ds : List Kept) (b : Bool) → (b ≡ true → IsBefor
 before-at c d ds true one rest = (one refl, rest)
 before-at c d ds false one rest = rest
 
-before-all : (v : View) (t : ℕ) (c : Kept) (ds : List Kept) → IsSound v → is_kept_of v t c ≡ true → keyed v c ≡ true → list_all (keyed v) ds ≡ true → list_all (ord_less c) ds ≡ true
+before-all : (v : View) (t : ℕ) (c : Kept) (ds : List Kept) → PassesTests v → is_kept_of v t c ≡ true → keyed v c ≡ true → list_all (keyed v) ds ≡ true → list_all (ord_less c) ds ≡ true
     → Each (IsBefore (made_of c)) (map made_of (filter (is_kept_of v t) ds))
 before-all v t c [] sound ic kc keys less = tt
 before-all v t c (d ∷ ds) sound ic kc keys less =
@@ -63,7 +65,7 @@ climbs-at : (c : Kept) (cs : List Kept) (b : Bool) → (b ≡ true → Each (IsB
 climbs-at c cs true one rest = (one refl, rest)
 climbs-at c cs false one rest = rest
 
-climbs : (v : View) (t : ℕ) (cs : List Kept) → IsSound v → list_all (keyed v) cs ≡ true → each_two ord_less cs ≡ true → Climbs (map made_of (filter (is_kept_of v t) cs))
+climbs : (v : View) (t : ℕ) (cs : List Kept) → PassesTests v → list_all (keyed v) cs ≡ true → each_two ord_less cs ≡ true → Climbs (map made_of (filter (is_kept_of v t) cs))
 climbs v t [] sound keys less = tt
 climbs v t (c ∷ cs) sound keys less =
     let ks = and_parts (keyed v c) (list_all (keyed v) cs) keys in
@@ -83,7 +85,7 @@ line-keys topics t (line ∷ lines) all =
     let parts = and_parts (is_key_of topics line.topic line.key) (list_all (λ (i : Instance). is_key_of topics i.topic i.key) lines) all in
     line-key-at topics t line (filter (λ i. i.topic == t) lines) (line.topic == t) refl parts.0 (line-keys topics t lines parts.1)
 
-Proper-start : (v : View) (t : ℕ) → IsSound v → Proper v.topics t (Begin (part v t))
+Proper-start : (v : View) (t : ℕ) → PassesTests v → Proper v.topics t (Begin (part v t))
 Proper-start v t sound =
     record {
       changes = good-changes v (is_kept_of v t) v.kept sound.keys sound.samples_kept;
@@ -92,6 +94,6 @@ Proper-start v t sound =
     }
 
 pub Proper-past : (t : ℕ) (h : History) → IsHistory h → Proper (start h).topics t (past t h)
-Proper-past t (Start v) sound = Proper-start v t sound
+Proper-past t (Start v) sound = Proper-start v t (sound-passes v sound)
 Proper-past t (h ▸ e) follow =
     Proper-extend (start h).topics t (past t h) (brings_to t h e) (Ordered-past t h (sound_parts (start h) (sound-of h follow.0) t)) (good-brings_to t h e follow.0 follow.1) (Proper-past t h follow.0)

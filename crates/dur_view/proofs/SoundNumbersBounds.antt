@@ -13,7 +13,8 @@ use Rattle.dur_view.specs.declared.data.Held.{Held}
 use Rattle.dur_view.specs.declared.data.KeptWriter.{KeptWriter}
 use Rattle.dur_view.specs.Words.{is_same}
 use Rattle.dur_view.specs.History.{History, ◌▸◌, next, held, joined, goes_on, itself, brings, writer_of, TopicEvent, Effect, Gone, Follows}
-use Rattle.dur_view.specs.IsSound.{is_of_set, run_to, is_open_set, first_open}
+use Rattle.dur_view.specs.IsSound.{first_open}
+use Rattle.dur_view.proofs.SoundTests.{is_of_set, run_to, is_open_set}
 use Rattle.dur_view.proofs.FullViews.{next-untouched, held-untouched}
 use Rattle.dur_view.proofs.SoundNumbersRise.{Numbered, members-numbered}
 

@@ -12,7 +12,8 @@ use Rattle.dur_view.specs.Words.{is_same, writer_line, topic_of}
 use Rattle.dur_view.specs.History.{History, start}
 use Rattle.dur_view.specs.Past.{Made, Past, past}
 use Rattle.dur_view.specs.Fates.{made, has_fate, living, exists, existing}
-use Rattle.dur_view.specs.IsSound.{IsHistory, each_two, topic_at, first_open}
+use Rattle.dur_view.specs.IsSound.{IsHistory, topic_at, first_open}
+use Rattle.dur_view.proofs.SoundTests.{each_two}
 use Rattle.dur_view.specs.Sound.{Each}
 use Rattle.dur_view.specs.View.{view, line_after, line_of, lines_at, place_of, kept_from, kept_of, kept_upto, instances_upto}
 use Rattle.dur_view.proofs.SameEffects.{is_same-true, line_is, writer_line-map}

@@ -16,6 +16,7 @@ use Rattle.dur_view.proofs.SoundNumbersEvents.{EachEvent, each-brings_to}
 use Rattle.dur_view.proofs.SoundNumbersRise.{NumbersRise, Under, RisesTo, Numbered, rises-extend}
 use Rattle.dur_view.proofs.SoundNumbersBounds.{bound, bound-stays, brings-numbered, numbered-up, is_same-refl}
 use Rattle.dur_view.proofs.SoundNumbersStart.{Known, rise-start, known-start, under-start}
+use Rattle.dur_view.proofs.TestsDecide.{sound-passes}
 
 -- ---- what holds of each change that the events make
 abbrev pub Makes : (Made → Type 0) → TopicEvent → Type 0
@@ -61,7 +62,7 @@ under-at t h e w false same own before =
     (each-brings_to (Makes (Under w (bound h w))) t h e (λ here n a s o is. absurd (cc)) (λ here. tt)) (before.under w))
 
 pub numbers-past : (t : ℕ) (h : History) → IsHistory h → Numbers t h
-numbers-past t (Start v) sound = record { rise = rise-start v t sound; under = λ w. under-start v t w sound; known = known-start v t sound }
+numbers-past t (Start v) follow = let sound = sound-passes v follow in record { rise = rise-start v t sound; under = λ w. under-start v t w sound; known = known-start v t sound }
 numbers-past t (h ▸ e) follow =
     let before = numbers-past t h follow.0 in
     let own = own-rises t h e follow.0 follow.1 before in

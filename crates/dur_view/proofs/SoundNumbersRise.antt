@@ -8,7 +8,7 @@ use Rattle.dur_view.specs.Words.{is_same, is_change}
 use Rattle.dur_view.specs.History.{TopicEvent, Effect, Gone}
 use Rattle.dur_view.specs.Past.{Made, Past, ◌▹◌, ◌▹▹◌}
 use Rattle.dur_view.specs.Fates.{count, made}
-use Rattle.dur_view.specs.IsSound.{is_of_set, run_to}
+use Rattle.dur_view.proofs.SoundTests.{is_of_set, run_to}
 use Rattle.dur_view.specs.Sound.{Each}
 use Rattle.dur_view.proofs.KeptChanges.{Each-append, Each-weaken, Each-filter}
 

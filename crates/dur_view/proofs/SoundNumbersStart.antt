@@ -11,7 +11,8 @@ use Rattle.dur_view.specs.declared.data.View.{View}
 use Rattle.dur_view.specs.Words.{is_same, writer_line, topic_of, stands}
 use Rattle.dur_view.specs.History.{Start}
 use Rattle.dur_view.specs.Past.{Made, made_of, is_kept_of, part}
-use Rattle.dur_view.specs.IsSound.{IsSound, each_two, topic_at, first_open}
+use Rattle.dur_view.specs.IsSound.{topic_at, first_open}
+use Rattle.dur_view.proofs.SoundTests.{PassesTests, each_two}
 use Rattle.dur_view.specs.Sound.{Each}
 use Rattle.dur_view.proofs.SameEffects.{is_same-true}
 use Rattle.dur_view.proofs.SoundWriterLaws.{and-both, own-lines}
@@ -56,7 +57,7 @@ rise-kept : (cs : List Kept) → each_two lower cs ≡ true → NumbersRise (map
 rise-kept [] all = tt
 rise-kept (c ∷ cs) all = let parts = and_parts (list_all (lower c) cs) (each_two lower cs) all in (each-lower c cs parts.0, rise-kept cs parts.1)
 
-pub rise-start : (v : View) (t : ℕ) → IsSound v → NumbersRise (part v t).kept
+pub rise-start : (v : View) (t : ℕ) → PassesTests v → NumbersRise (part v t).kept
 rise-start v t sound = rise-kept (filter (is_kept_of v t) v.kept) (two-keep lower (is_kept_of v t) v.kept sound.numbers_rise)
 
 -- ---- the writer's line is the one of which the rule speaks
@@ -88,10 +89,10 @@ topic-at t (Some i) is = eqb-true i.topic t is
 abbrev below : View → Kept → Bool
 below v c = list_any (λ w. is_same w.guid c.writer && (nat_lt c.number (first_open w) && (w.topic == topic_at v c))) v.writers
 
-kept-line : (v : View) (c : Kept) → IsSound v → below v c ≡ true → FoundLine v.writers c.writer (λ w. nat_lt c.number (first_open w) && (w.topic == topic_at v c))
+kept-line : (v : View) (c : Kept) → PassesTests v → below v c ≡ true → FoundLine v.writers c.writer (λ w. nat_lt c.number (first_open w) && (w.topic == topic_at v c))
 kept-line v c sound is = any-line v.writers v.writers c.writer (λ w. nat_lt c.number (first_open w) && (w.topic == topic_at v c)) (own-lines v.writers sound.differ) is
 
-kept-known : (v : View) (t : ℕ) (c : Kept) → IsSound v → is_kept_of v t c ≡ true → below v c ≡ true → Known v t (made_of c)
+kept-known : (v : View) (t : ℕ) (c : Kept) → PassesTests v → is_kept_of v t c ≡ true → below v c ≡ true → Known v t (made_of c)
 kept-known v t c sound here is =
     let f = kept-line v c sound is in
     let parts = and_parts (nat_lt c.number (first_open f.line)) (f.line.topic == topic_at v c) f.says in
@@ -99,7 +100,7 @@ kept-known v t c sound here is =
     let topic : topic_of v c.writer ≡ t = own ∙ eqb-true f.line.topic (topic_at v c) parts.1 ∙ topic-at t (slice_get v.instances c.instance) here in
     record { there = ap is_some f.found; topic = eq-eqb (topic_of v c.writer) t topic }
 
-kept-below : (v : View) (c : Kept) → IsSound v → below v c ≡ true → c.number < bound (Start v) c.writer
+kept-below : (v : View) (c : Kept) → PassesTests v → below v c ≡ true → c.number < bound (Start v) c.writer
 kept-below v c sound is =
     let f = kept-line v c sound is in
     let parts = and_parts (nat_lt c.number (first_open f.line)) (f.line.topic == topic_at v c) f.says in
@@ -109,10 +110,10 @@ kept-below v c sound is =
     ap (λ (o : Option KeptWriter). open_from (unwrap_or (option_map (λ line. line.next) o) 1) (unwrap_or (option_map (λ line. line.held) o) [])) f.found in
     omega arith
 
-pub known-start : (v : View) (t : ℕ) → IsSound v → Each (Known v t) (part v t).kept
+pub known-start : (v : View) (t : ℕ) → PassesTests v → Each (Known v t) (part v t).kept
 known-start v t sound = each-kept (Known v t) (below v) (is_kept_of v t) v.kept (λ c here is. kept-known v t c sound here is) sound.numbers_below
 
-pub under-start : (v : View) (t : ℕ) (w : Guid) → IsSound v → Each (λ c. is_same c.writer w ≡ true → c.number < bound (Start v) w) (part v t).kept
+pub under-start : (v : View) (t : ℕ) (w : Guid) → PassesTests v → Each (λ c. is_same c.writer w ≡ true → c.number < bound (Start v) w) (part v t).kept
 under-start v t w sound =
     each-kept (λ c. is_same c.writer w ≡ true → c.number < bound (Start v) w) (below v) (is_kept_of v t) v.kept
     (λ c here is same. subst (λ (u : Guid). c.number < bound (Start v) u) (is_same-true c.writer w same) (kept-below v c sound is)) sound.numbers_below

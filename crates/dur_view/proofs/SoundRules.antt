@@ -6,11 +6,12 @@ use Rattle.dur_base.specs.Goodness.{IsGood}
 use Rattle.dur_view.specs.declared.data.View.{View}
 use Rattle.dur_view.specs.Words.{is_same, is_key, is_change, is_key_of}
 use Rattle.dur_view.specs.Fates.{key_cmp, is_nobody}
-use Rattle.dur_view.specs.IsSound.{GoodTopics, each_two, is_same_bool, instance_says, topic_at, is_open_set, first_open, at_most}
+use Rattle.dur_view.specs.IsSound.{topic_at, first_open}
+use Rattle.dur_view.proofs.SoundTests.{TopicsPass, each_two, is_same_bool, instance_says, is_open_set, at_most}
 
 -- The rules on topics, on writers and on the members of their open sets alone.
 pub record SoundWriters (v : View) : Type 0 where
-  pub topics : GoodTopics v.topics
+  pub topics : TopicsPass v.topics
   pub writer_count : length v.writers ≤ 67108864
   pub places : list_all (λ w. nat_lt w.topic (length v.topics)) v.writers ≡ true
   pub differ : each_two (λ a b. not (is_same a.guid b.guid)) v.writers ≡ true

@@ -15,12 +15,14 @@ use Rattle.dur_view.specs.declared.data.Held.{Held}
 use Rattle.dur_view.specs.declared.data.KeptWriter.{KeptWriter}
 use Rattle.dur_view.specs.Words.{is_same, writer_line, stands, topic_of, is_key_of}
 use Rattle.dur_view.specs.History.{History, Start, ◌▸◌, start, moment, next, held, joined, goes_on, Follows}
-use Rattle.dur_view.specs.IsSound.{IsHistory, each_two, is_of_set, run_to, is_open_set}
+use Rattle.dur_view.specs.IsSound.{IsHistory}
+use Rattle.dur_view.proofs.SoundTests.{each_two, is_of_set, run_to, is_open_set}
 use Rattle.dur_view.specs.View.{view, line_after}
 use Rattle.dur_view.proofs.SoundRules.{SoundWriters}
 use Rattle.dur_view.proofs.SameEffects.{is_same-true}
 use Rattle.dur_view.proofs.Parts.{AllStand, all-stand}
 use Rattle.dur_view.proofs.FullViews.{sound-of}
+use Rattle.dur_view.proofs.TestsDecide.{sound-passes}
 
 pub and-both : (a b : Bool) → a ≡ true → b ≡ true → (a && b) ≡ true
 and-both a b p q = cc
@@ -168,7 +170,8 @@ keys-of topics last (w ∷ ws) all =
     and-both (list_all (λ (x : Held). is_key_of topics w.topic x.sample.key) w.held) (list_all (λ (y : KeptWriter). list_all (λ (x : Held). is_key_of topics y.topic x.sample.key) y.held) ws) all.0.keys (keys-of topics last ws all.1)
 
 pub set-of : (h : History) (w : Guid) → IsHistory h → stands (start h) w ≡ true → SoundSet (start h).topics (topic_of (start h) w) (moment h) (next h w) (held h w)
-set-of (Start v) w sound there =
+set-of (Start v) w follow there =
+    let sound = sound-passes v follow in
     set-at-start v.topics v.last v.writers w (together v.topics v.last v.writers sound.sets_open (and_parts (list_all (λ (w : KeptWriter). list_all (λ (x : Held). nat_le x.moment v.last) w.held) v.writers) _ sound.early).0 sound.samples_held sound.keys_held) there
 set-of (h ▸ Took m u n s) w follow there = took-at h m u w n s (is_same u w) refl follow.1 (set-of h w follow.0 there)
 set-of (h ▸ Skip m u from to) w follow there = skip-at (start h).topics (topic_of (start h) w) (moment h) m (next h w) (to + 1) (held h w) (is_same u w) follow.1.later (set-of h w follow.0 there)

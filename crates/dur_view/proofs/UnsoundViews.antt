@@ -12,6 +12,7 @@ use Rattle.dur_view.specs.declared.data.Kept.{Kept}
 use Rattle.dur_view.specs.declared.data.KeptWriter.{KeptWriter}
 use Rattle.dur_view.specs.declared.data.View.{View}
 use Rattle.dur_view.specs.IsSound.{IsSound}
+use Rattle.dur_view.proofs.TestsDecide.{sound-passes}
 use Rattle.dur_view.proofs.ExampleHistories.{writer, aa, bb, of_depth, sample, start_of, kept_write}
 
 abbrev Refused : View → Type 0
@@ -48,97 +49,97 @@ listing instances = record (start_of topic None [] 0 []) { instances = instances
 
 -- A writer's topic, a registered writer and a kept change's instance stand in the view.
 topic-in-range : Refused (record (keeping []) { writers = line 1 3 [] ∷ [] })
-topic-in-range s = s.in_range
+topic-in-range s = (sound-passes _ s).in_range
 
 registered-in-range : Refused (listing (instance 0 aa (1 ∷ []) ∷ []))
-registered-in-range s = s.in_range
+registered-in-range s = (sound-passes _ s).in_range
 
 instance-in-range : Refused (record (keeping (one ∷ [])) { instances = [] })
-instance-in-range s = s.in_range
+instance-in-range s = (sound-passes _ s).in_range
 
 -- Names, GUIDs, and keys of a topic differ; instances, registered writers and kept changes are in order.
 names-differ : Refused (record (keeping []) { topics = topic ∷ topic ∷ [] })
-names-differ s = s.topics.names
+names-differ s = (sound-passes _ s).topics.names
 
 writers-differ : Refused (record (keeping []) { writers = line 0 3 [] ∷ line 0 3 [] ∷ [] })
-writers-differ s = s.differ
+writers-differ s = (sound-passes _ s).differ
 
 instances-differ : Refused (listing (instance 0 aa [] ∷ instance 0 aa [] ∷ []))
-instances-differ s = s.instances_in_order
+instances-differ s = (sound-passes _ s).instances_in_order
 
 keys-in-order : Refused (listing (instance 0 bb [] ∷ instance 0 aa [] ∷ []))
-keys-in-order s = s.instances_in_order
+keys-in-order s = (sound-passes _ s).instances_in_order
 
 registered-once : Refused (listing (instance 0 aa (0 ∷ 0 ∷ []) ∷ []))
-registered-once s = s.registered_in_order
+registered-once s = (sound-passes _ s).registered_in_order
 
 kept-by-topics : Refused (record (listing (instance 0 aa [] ∷ instance 1 aa [] ∷ [])) { kept = record one { instance = 1 } ∷ record two { instance = 0 } ∷ [] })
-kept-by-topics s = s.kept_in_order
+kept-by-topics s = (sound-passes _ s).kept_in_order
 
 -- Held numbers follow each other up to the one before next, under the mark of the first.
 no-hole-in-a-set : Refused (holding (member 1 4 ∷ []))
-no-hole-in-a-set s = s.sets_open
+no-hole-in-a-set s = (sound-passes _ s).sets_open
 
 set-of-its-first : Refused (holding (member 2 4 ∷ []))
-set-of-its-first s = s.sets_open
+set-of-its-first s = (sound-passes _ s).sets_open
 
 -- A quiet moment is there exactly where the instance is disposed and nobody is registered.
 quiet-without-writers : Refused (start_of topic (Some 5) (0 ∷ []) 0 [])
-quiet-without-writers s = s.quiet
+quiet-without-writers s = (sound-passes _ s).quiet
 
 -- No moment is above the last one.
 held-early : Refused (holding (member 1 6 ∷ member 2 6 ∷ []))
-held-early s = s.early
+held-early s = (sound-passes _ s).early
 
 quiet-early : Refused (start_of topic (Some 6) [] 0 [])
-quiet-early s = s.early
+quiet-early s = (sound-passes _ s).early
 
 arrived-early : Refused (keeping (record one { arrived = Some 6 } ∷ []))
-arrived-early s = s.arrived_early
+arrived-early s = (sound-passes _ s).arrived_early
 
 -- A kept change has its instance's key and an act of a change; its writer's numbers rise and are below its next.
 key-of-its-instance : Refused (keeping (record one { sample = sample bb Write 4 None NoSet } ∷ []))
-key-of-its-instance s = s.keys
+key-of-its-instance s = (sound-passes _ s).keys
 
 act-of-a-change : Refused (keeping (record one { sample = sample aa Unregister 4 None NoSet } ∷ []))
-act-of-a-change s = s.keys
+act-of-a-change s = (sound-passes _ s).keys
 
 numbers-in-order : Refused (keeping (record one { number = 2 } ∷ record two { number = 1 } ∷ []))
-numbers-in-order s = s.numbers_rise
+numbers-in-order s = (sound-passes _ s).numbers_rise
 
 number-below-next : Refused (keeping (record one { number = 3 } ∷ []))
-number-below-next s = s.numbers_below
+number-below-next s = (sound-passes _ s).numbers_below
 
 -- Ordinals begin at 1, rise, and are at most the number of changes, which is at most the depth.
 ordinals-from-one : Refused (keeping (record one { ordinal = 0 } ∷ []))
-ordinals-from-one s = s.ordinals_within
+ordinals-from-one s = (sound-passes _ s).ordinals_within
 
 ordinal-at-most-changes : Refused (keeping (one ∷ record two { ordinal = 3 } ∷ []))
-ordinal-at-most-changes s = s.ordinals_within
+ordinal-at-most-changes s = (sound-passes _ s).ordinals_within
 
 ordinals-differ : Refused (keeping (one ∷ record two { ordinal = 1 } ∷ []))
-ordinals-differ s = s.ordinals_rise
+ordinals-differ s = (sound-passes _ s).ordinals_rise
 
 first-ordinal-is-one : Refused (keeping (two ∷ []))
-first-ordinal-is-one s = s.ordinals_begin
+first-ordinal-is-one s = (sound-passes _ s).ordinals_begin
 
 changes-at-most-the-depth : Refused (start_of topic None (0 ∷ []) 3 [])
-changes-at-most-the-depth s = s.few
+changes-at-most-the-depth s = (sound-passes _ s).few
 
 -- A registered writer is one of the instance's topic.
 registered-of-its-topic : Refused (record (listing (instance 1 aa (0 ∷ []) ∷ [])) { topics = topic ∷ topic ∷ [] })
-registered-of-its-topic s = s.registered_here
+registered-of-its-topic s = (sound-passes _ s).registered_here
 
 -- Held and kept samples are good: a lifespan is below 2^31 - 1 seconds.
 kept-samples-good : IsSound (keeping (record one { sample = sample aa Write 4 (Some (2147483647 * 2 ^ 32)) NoSet } ∷ [])) → 2147483647 * 2 ^ 32 < 2147483647 * 2 ^ 32
-kept-samples-good s = s.samples_kept.0.lifespan
+kept-samples-good s = (sound-passes _ s).samples_kept.0.lifespan
 
 held-samples-good : IsSound (holding (record (member 1 4) { sample = sample aa Write 4 (Some (2147483647 * 2 ^ 32)) (Of 1) } ∷ member 2 4 ∷ [])) → 2147483647 * 2 ^ 32 < 2147483647 * 2 ^ 32
-held-samples-good s = s.samples_held.0.0.lifespan
+held-samples-good s = (sound-passes _ s).samples_held.0.0.lifespan
 
 -- A key of a topic without keys is zero.
 no-key : Refused (record (listing (instance 0 aa [] ∷ [])) { topics = record topic { shape = shape.None } ∷ [] })
-no-key s = s.keys_zero
+no-key s = (sound-passes _ s).keys_zero
 
 held-no-key : Refused (record (holding (member 1 4 ∷ member 2 4 ∷ [])) { topics = record topic { shape = shape.None } ∷ [] })
-held-no-key s = s.keys_held
+held-no-key s = (sound-passes _ s).keys_held

@@ -2,16 +2,17 @@
 use Rattle.std.proofs.Common.{ℕ, ◌≤◌}
 use Rattle.dur_view.specs.History.{History, moment}
 use Rattle.dur_view.specs.IsSound.{IsSound, IsHistory}
+use Rattle.dur_view.proofs.SoundTests.{PassesTests}
 use Rattle.dur_view.specs.View.{view}
 use Rattle.dur_view.proofs.FullViews.{sound-of}
 use Rattle.dur_view.proofs.SoundWriterLaws.{and-both, sound-writers}
 use Rattle.dur_view.proofs.SoundInstanceLaws.{sound-instances}
 use Rattle.dur_view.proofs.SoundKeptLaws.{sound-kept}
 use Rattle.dur_view.proofs.SoundNumbersLaw.{sound-numbers}
+use Rattle.dur_view.proofs.TestsDecide.{passes-sound}
 
--- The law.
-pub sound-view : (h : History) (m : ℕ) → IsHistory h → moment h ≤ m → IsSound (view h m)
-sound-view h m follow le =
+view-passes : (h : History) (m : ℕ) → IsHistory h → moment h ≤ m → PassesTests (view h m)
+view-passes h m follow le =
     let writers = sound-writers h m follow le in
     let instances = sound-instances h m (sound-of h follow) in
     let kept = sound-kept h m follow in
@@ -41,3 +42,7 @@ sound-view h m follow le =
       keys_zero = kept.keys_zero;
       writer_count = writers.writer_count;
     }
+
+-- The law.
+pub sound-view : (h : History) (m : ℕ) → IsHistory h → moment h ≤ m → IsSound (view h m)
+sound-view h m follow le = passes-sound (view h m) (view-passes h m follow le)
