@@ -8,7 +8,7 @@ use Rattle.dur_capture.specs.declared.fault.CapFault.TheVariants.{LongDatagram, 
 use Rattle.dur_capture.specs.Feeding.{Feeding}
 use Rattle.dur_qos.specs.declared.plan.Plan.{Plan}
 use Rattle.dur_qos.specs.Text.{PlanText}
-use Rattle.dur_store.specs.History.{entitled}
+use Rattle.one_topic.specs.History.{entitled}
 use Rattle.dur_rerun.specs.declared.one_topic.OneTopic.{OneTopic}
 use Rattle.dur_rerun.specs.declared.open.Opened.{Opened}
 use Rattle.dur_rerun.specs.Opened.{Opens}

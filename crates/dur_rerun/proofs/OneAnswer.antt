@@ -6,7 +6,7 @@ use Rattle.dur_qos.specs.declared.fault.PlanKind.{PlanKind}
 use Rattle.dur_qos.specs.Text.{PlanText}
 use Rattle.dur_qos.proofs.Texts.{no_further}
 use Rattle.dur_qos.proofs.Verdicts.{one_plan, plan_or_fault}
-use Rattle.dur_store.specs.History.{entitled}
+use Rattle.one_topic.specs.History.{entitled}
 use Rattle.dur_rerun.specs.declared.one_topic.OneTopic.{OneTopic}
 use Rattle.dur_rerun.specs.OneTopic.{plan_at, Reads}
 use Rattle.dur_rerun.specs.Admitting.{State}

@@ -3,7 +3,7 @@ use Rattle.std.specs.Prelude.{ℕ, List, [], ◌∷◌, ◌++◌}
 use Rattle.std.specs.List.{flat_map}
 use Rattle.std.specs.Fmt.{decimal}
 use Rattle.hex.specs.Hex.{encode_lower}
-use Rattle.dur_store.specs.declared.change.Change.{Change}
+use Rattle.one_topic.specs.declared.change.Change.{Change}
 
 -- a payload as hex, or a dash
 abbrev pub payload_text : List ℕ → List ℕ

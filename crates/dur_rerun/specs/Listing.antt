@@ -4,7 +4,7 @@ use Rattle.dur_outside.specs.World.{Image}
 use Rattle.dur_capture.specs.declared.fault.CapFault.{CapFault}
 use Rattle.dur_qos.specs.declared.plan.Plan.{Plan}
 use Rattle.dur_qos.specs.Text.{PlanText}
-use Rattle.dur_store.specs.History.{entitled}
+use Rattle.one_topic.specs.History.{entitled}
 use Rattle.dur_rerun.specs.declared.one_topic.OneTopic.{OneTopic}
 use Rattle.dur_rerun.specs.OneTopic.{plan_at}
 use Rattle.dur_rerun.specs.Admitting.{State}

@@ -2,7 +2,7 @@
 
 ghost use Rattle.std.specs.Prelude.{◌≡◌, ◌<◌, ◌^◌, IfOk, IfSome};
 ghost use Rattle.std.specs.Str.{bytes_eq};
-ghost use Rattle.dur_store.specs.History.{TakesPlain};
+ghost use Rattle.one_topic.specs.History.{TakesPlain};
 ghost use Rattle.rtps_message.specs.Facts.{IsGoodFact, AreGood};
 ghost use Rattle.dur_rerun.specs.Admitting.{is_write, is_of_no_set, is_plain, every_reader};
 ghost use Rattle.dur_rerun.specs.Admitted.{entry_in, TakesFact, TakesFacts, TakesRecord};
@@ -12,7 +12,7 @@ use dur_base::{
     later,
 };
 use dur_capture::Record;
-use dur_store::Store;
+use one_topic::Store;
 use rtps_message::{End, Heard, facts_of, sample_of};
 use std::alloc::Global;
 

@@ -12,7 +12,7 @@ use crate::records::{NoRecord, next_record};
 use dur_base::{Guid, Prefix, Ticks};
 use dur_capture::{CapFault, Feed};
 use dur_outside::Source;
-use dur_store::Store;
+use one_topic::Store;
 use std::alloc::Global;
 
 /// Why the rest of an input has no history.

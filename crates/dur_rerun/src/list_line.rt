@@ -6,7 +6,7 @@ ghost use Rattle.dur_rerun.specs.ListLine.{payload_text, list_line, list_text};
 
 use crate::line::{append, append_number};
 use dur_base::OutOfMemory;
-use dur_store::Change;
+use one_topic::Change;
 use std::alloc::Global;
 
 fn append_hex(alloc: Global, out: &mut Vec<u8>, octets: &[u8]) -> Result<(), OutOfMemory>

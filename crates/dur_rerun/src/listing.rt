@@ -5,7 +5,7 @@ ghost use Rattle.std.specs.Io.KnownBytes.{IsAtEnd};
 ghost use Rattle.dur_outside.specs.Causes.{Rose};
 ghost use Rattle.dur_capture.specs.declared.fault.CapFault.{CapFault};
 ghost use Rattle.dur_qos.specs.declared.fault.PlanKind.{PlanKind};
-ghost use Rattle.dur_store.specs.History.{entitled};
+ghost use Rattle.one_topic.specs.History.{entitled};
 ghost use Rattle.dur_rerun.specs.ListLine.{list_text};
 ghost use Rattle.dur_rerun.specs.Listing.{Lists, NotYetAt, ListBreaks, ListsAll, ListsAtMost};
 ghost use Rattle.dur_rerun.specs.Showing.{CaptureBreaks, PlanBreaks, place_at};

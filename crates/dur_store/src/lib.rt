@@ -1,8 +1,8 @@
-//! The store of topics. So far it has one topic, keeps each entry, and filters their list.
+//! One store of all topics: entries in, limits tested, what is entitled and views out.
 #![tactic(auto)]
 
-mod change;
+mod refuse;
 mod store;
 
-pub use change::{Change, Snapshot};
-pub use store::{Refuse, Store};
+pub use refuse::Refuse;
+pub use store::Store;

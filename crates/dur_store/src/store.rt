@@ -1,154 +1,136 @@
-//! The admitted history of one topic, and what KEEP_LAST leaves of it (DDS 2.2.3.18).
+//! The store of all topics.
 
-ghost use Rattle.std.specs.Prelude.{◌≡◌, ℕ, ◌≤◌, [], ◌∷◌, ◌++◌, length, IfOk, OnOk, IfErr, OnErr, count_by, option_to_list};
-ghost use Rattle.dur_store.specs.History.{TakesPlain, is_of, kept, kept_sample, entitled};
+ghost use Rattle.std.specs.Prelude.{◌≡◌, ◌<◌, ◌≤◌, length, OnOk, OnErr, IfOk};
+ghost use Rattle.dur_qos.specs.Good.{GoodPlan};
+ghost use Rattle.dur_view.specs.History.{History, Start, ◌▸◌, start, moment as last_moment, next, HasShortNumber};
+ghost use Rattle.dur_view.specs.Full.{full, places_of};
+ghost use Rattle.dur_view.specs.IsSound.{IsSound, IsHistory};
+ghost use Rattle.dur_view.specs.View.{view};
+ghost use Rattle.dur_view.specs.Persistent.{persistent};
+ghost use Rattle.dur_view.specs.Past.{past};
+ghost use Rattle.dur_view.specs.Snapshot.{snap};
+ghost use Rattle.dur_store.specs.Keeps.{Keeps};
+ghost use Rattle.dur_store.specs.Admitting.{Admitting};
 
-use crate::{Change, Snapshot};
-use dur_base::{Entry, Guid, Key, List, Number, OutOfMemory, Sample, Ticks};
+use crate::Refuse;
+use crate::refuse::refusal_of;
+use dur_base::{Entry, Guid, List, Number, OutOfMemory, Ticks};
+use dur_qos::Plan;
+use dur_view::{Snapshot, View, WholeHistory};
 use std::alloc::Global;
-use std::marker::Model;
 
-/// Why an entry is not admitted: the first limit that it would pass (DDS 2.2.3.19), or want of memory.
-#[derive(Clone, Copy, Debug, PartialEq, Eq, Drop)]
-pub enum Refuse {
-    /// max_instances.
-    Instances,
-    /// max_samples_per_instance.
-    PerInstance,
-    /// max_samples.
-    Samples,
-    /// The samples held of coherent sets that are not whole yet.
-    Held,
-    /// There was not enough memory.
-    OutOfMemory,
-}
-
-/// The admitted history of one topic, of which contracts see the depth and the entries.
+/// One store of all topics. Contracts tell it by the history that it stands for (`Keeps`). So far it keeps each entry,
+/// and goes over all of them at a call.
 #[derive(Drop)]
 pub struct Store {
-    depth: u32,
-    entries: Vec<Entry>,
-}
-
-impl Model for Store {
-    ghost use Rattle.dur_store.specs.History.{History};
-
-    ghost Value = { History };
-
-    ghost view = { λ s. record { depth = s.depth; entries = s.entries.items } };
+    history: WholeHistory,
 }
 
 impl Store {
-    /// A store without an entry, of a topic that keeps the newest `depth` changes of each instance.
-    pub fn first(alloc: Global, depth: u32) -> Store
-        ensures { result ≡ record { depth = depth; entries = [] } }
+    /// A store that stands for the view with all that the plan declares, and no entries. The place of a topic in the
+    /// store is that in this full view: the view's topics, and behind them those of the plan that the view lacks.
+    #[tactic(auto, unfolding(crate::specs::Keeps::Keeps))]
+    pub fn of_view(alloc: Global, plan: &Plan, view: View) -> Result<Store, OutOfMemory>
+        requires plan { GoodPlan plan.now }
+        requires view { IsSound view }
+        ensures { IfOk result (λ s. Keeps s (Start (full plan.now view))) }
+    {
+        let full = view.full(plan)?;
+        Ok(Store::over(alloc, full))
+    }
+
+    /// A store that stands for the view as it is, and no entries.
+    #[tactic(auto, unfolding(crate::specs::Keeps::Keeps))]
+    fn over(alloc: Global, view: View) -> Store
+        ensures { Keeps result (Start view) }
     {
         Store {
-            depth,
-            entries: Vec::new(alloc),
+            history: WholeHistory::of_view(alloc, view),
         }
     }
 
-    /// Adds an entry at the end of the history. It is refused for want of memory alone, and then handed
-    /// back. So far an entry is a sample that is a write, of no coherent set and without a lifespan.
-    pub fn admit(&mut self, entry: Entry) -> Result<(), (Refuse, Entry)>
-        requires { TakesPlain entry }
-        ensures ok { OnOk result (self.new ≡ record self.old { entries = self.old.entries ++ entry ∷ [] }) }
-        ensures err { OnErr result (self.new ≡ self.old) }
-        ensures memory { IfErr result (λ e. e.0 ≡ Refuse.OutOfMemory) }
-        ensures handed_back { IfErr result (λ e. e.1 ≡ entry) }
+    /// Makes room for the next entry.
+    pub fn reserve(&mut self) -> Result<(), OutOfMemory>
+        ensures { (h : History) → Keeps self.old h → Keeps self.new h }
     {
-        match self.entries.push(entry) {
+        Ok(())
+    }
+
+    /// Appends the entry, unless it would pass a limit of its topic at its moment: then it is refused for the first of
+    /// them and handed back. A skip and a loss pass none. Refused or on want of memory, the store is as it was.
+    #[tactic(auto, unfolding(crate::specs::Keeps::Keeps))]
+    pub fn admit(&mut self, alloc: Global, entry: Entry) -> Result<(), (Refuse, Entry)>
+        requires { HasShortNumber entry }
+        ensures { Admitting self.old entry self.new result }
+    {
+        match self.history.admit(alloc, entry) {
             Ok(()) => Ok(()),
-            Err(refused) => Err((Refuse::OutOfMemory, refused.value)),
+            Err((cause, back)) => Err((refusal_of(cause), back)),
         }
     }
 
-    /// The changes that are entitled at a moment that is none before the entries'. So far there is one
-    /// topic, and nothing expires.
+    /// Appends the entry, whatever the limits say. On want of memory the store is as it was.
+    #[tactic(auto, unfolding(crate::specs::Keeps::Keeps))]
+    pub fn restore(&mut self, entry: Entry) -> Result<(), OutOfMemory>
+        requires { HasShortNumber entry }
+        ensures ok { OnOk result ((h : History) → Keeps self.old h → Keeps self.new (h ▸ entry)) }
+        ensures err { OnErr result ((h : History) → Keeps self.old h → Keeps self.new h) }
+    {
+        self.history.restore(entry)
+    }
+
+    /// The number after the writer's last handled one.
+    #[tactic(auto, unfolding(crate::specs::Keeps::Keeps))]
+    pub fn next(&self, writer: Guid) -> Number
+        ensures { (h : History) → Keeps self.now h → result ≡ next h writer }
+    {
+        self.history.next(writer)
+    }
+
+    /// The moment of the last entry, or the start's, in ticks of 2^-32 s.
+    #[tactic(auto, unfolding(crate::specs::Keeps::Keeps))]
+    pub fn last(&self) -> Ticks
+        ensures { (h : History) → Keeps self.now h → result ≡ last_moment h }
+    {
+        self.history.last()
+    }
+
+    /// Where the topics of a plan stand in the store, in the plan's order: a plan's topic and a store's are one where
+    /// their names are.
+    #[tactic(auto, unfolding(crate::specs::Keeps::Keeps))]
+    pub fn places(&self, plan: &Plan) -> Result<List<u32>, OutOfMemory>
+        requires { (h : History) × Keeps self.now h × length (start h).topics ≤ 1024 }
+        ensures { IfOk result (λ l. (h : History) → Keeps self.now h → l ≡ places_of plan.now (start h).topics) }
+    {
+        self.history.start().places(plan)
+    }
+
+    /// What a late reader of the topic at a place is owed at a moment, in the order of effect (DDS 2.2.3.4, DURABILITY).
+    /// Of a place without a topic that is nothing.
+    #[tactic(auto, unfolding(crate::specs::Keeps::Keeps))]
     pub fn entitled(
         &self,
         alloc: Global,
-        _topic: u32,
-        _moment: Ticks,
+        topic: u32,
+        moment: Ticks,
     ) -> Result<Snapshot, OutOfMemory>
-        ensures { IfOk result (λ s. s.changes ≡ entitled self.now.depth self.now.entries) }
+        ensures { IfOk result (λ s. (h : History) → Keeps self.now h → topic < length (start h).topics → s.changes ≡ snap (past topic h) moment) }
     {
-        let changes = entitled_of(alloc, self.depth, &self.entries)?;
-        Ok(Snapshot {
-            changes: List::of(changes),
-        })
-    }
-}
-
-/// Whether the entry takes effect on the key.
-fn takes_effect(key: &Key, entry: &Entry) -> bool
-    ensures { result ≡ is_of key.now entry.now }
-{
-    match entry {
-        Entry::Took { sample, .. } => sample.key == *key,
-        Entry::Skip { .. } | Entry::Lost { .. } => false,
-    }
-}
-
-/// How many entries take effect on the key.
-fn count_of(key: &Key, entries: &[Entry]) -> usize
-    ensures { result ≡ count_by (is_of key.now) entries.now }
-{
-    entries.iter().filter(|e| takes_effect(key, e)).count()
-}
-
-/// The change of a taken sample, if it is not displaced by the later entries.
-fn kept_sample_of(
-    depth: u32,
-    writer: Guid,
-    number: Number,
-    sample: &Sample,
-    later: &[Entry],
-) -> Result<Option<Change>, OutOfMemory>
-    ensures { IfOk result (λ c. option_to_list c ≡ kept_sample depth writer number sample.now later.now) }
-{
-    if count_of(&sample.key, later) >= depth as usize {
-        return Ok(None);
-    }
-    let (original, number) = sample.original.unwrap_or((writer, number));
-    let mut sample = sample.copy()?;
-    sample.original = Some((original, number));
-    Ok(Some(Change {
-        original,
-        number,
-        sample,
-    }))
-}
-
-/// The entry's change, if it is not displaced by the later ones.
-fn kept_of(depth: u32, entry: &Entry, later: &[Entry]) -> Result<Option<Change>, OutOfMemory>
-    ensures { IfOk result (λ c. option_to_list c ≡ kept depth entry.now later.now) }
-{
-    match entry {
-        Entry::Took {
-            writer,
-            number,
-            sample,
-            ..
-        } => kept_sample_of(depth, *writer, *number, sample, later),
-        Entry::Skip { .. } | Entry::Lost { .. } => Ok(None),
-    }
-}
-
-/// The entries' changes that are not displaced.
-fn entitled_of(alloc: Global, depth: u32, entries: &[Entry]) -> Result<Vec<Change>, OutOfMemory>
-    ensures { IfOk result (λ v. v.items ≡ entitled depth entries.now) }
-{
-    let mut changes = Vec::new(alloc);
-    let mut rest = entries;
-    while let [entry, later @ ..] = rest {
-        if let Some(change) = kept_of(depth, entry, later)? {
-            if changes.push(change).is_err() {
-                return Err(OutOfMemory);
-            }
+        if topic as usize >= self.history.start().topics.len() {
+            return Ok(Snapshot {
+                changes: List::new(alloc),
+            });
         }
-        rest = later;
+        self.history.entitled(alloc, topic, moment)
     }
-    Ok(changes)
+
+    /// The view of the persistent topics at a moment that is none before the last one: what outlives the process.
+    #[tactic(auto, unfolding(crate::specs::Keeps::Keeps))]
+    pub fn view(&self, alloc: Global, moment: Ticks) -> Result<View, OutOfMemory>
+        requires { (h : History) × Keeps self.now h × IsHistory h × last_moment h ≤ moment }
+        ensures { IfOk result (λ v. (h : History) → Keeps self.now h → v ≡ view (persistent h) moment) }
+    {
+        let whole = self.history.view(alloc, moment)?;
+        whole.persistent()
+    }
 }

@@ -14,6 +14,7 @@ use Rattle.dur_view.specs.declared.data.Instance.{Instance}
 use Rattle.dur_view.specs.declared.data.Kept.{Kept}
 use Rattle.dur_view.specs.declared.data.View.{View}
 use Rattle.dur_view.specs.Words.{is_same, is_key, is_change, is_key_of}
+pub use Rattle.dur_view.specs.Words.{is_same_bool, at_most}
 use Rattle.dur_view.specs.Fates.{key_cmp, is_nobody}
 use Rattle.dur_view.specs.IsSound.{first_open, topic_at}
 
@@ -21,10 +22,6 @@ use Rattle.dur_view.specs.IsSound.{first_open, topic_at}
 abbrev pub each_two : {A : Type 0} → (A → A → Bool) → List A → Bool
 each_two test [] = true
 each_two test (x ∷ xs) = list_all (test x) xs && each_two test xs
-
-abbrev pub is_same_bool : Bool → Bool → Bool
-is_same_bool true b = b
-is_same_bool false b = not b
 
 -- the instance of a kept change says so
 abbrev pub instance_says : View → (Instance → Bool) → Kept → Bool
@@ -43,10 +40,6 @@ run_to f next n (x ∷ xs) = (x.number == n) && (is_of_set f x.sample.set && run
 abbrev pub is_open_set : ℕ → List Held → Bool
 is_open_set next [] = true
 is_open_set next (x ∷ xs) = run_to x.number next x.number (x ∷ xs)
-
-abbrev pub at_most : Option ℕ → ℕ → Bool
-at_most None n = true
-at_most (Some most) n = nat_le n most
 
 -- tests of a view's topics
 pub record TopicsPass (topics : List Topic) : Type 0 where

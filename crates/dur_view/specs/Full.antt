@@ -18,6 +18,10 @@ more_topics plan topics = filter (λ t. not (is_some (place_of t.name topics))) 
 abbrev pub topic_place : Plan → List Topic → ℕ → ℕ
 topic_place plan topics i = unwrap_or (option_and_then (λ t. place_of t.name topics) (slice_get plan.topics i)) 0
 
+-- the places among the topics of those of the plan, in the plan's order
+abbrev pub places_of : Plan → List Topic → List ℕ
+places_of plan topics = map (λ t. unwrap_or (place_of t.name topics) 0) plan.topics
+
 -- a declared writer of which nothing was handled
 abbrev pub new_writer : Plan → List Topic → WriterLine → KeptWriter
 new_writer plan topics w = record { guid = w.guid; topic = topic_place plan topics w.topic; next = 1; held = [] }

@@ -5,7 +5,7 @@ ghost use Rattle.std.specs.Str.{bytes_eq};
 ghost use Rattle.dur_qos.specs.Plan.{place_of};
 ghost use Rattle.dur_qos.specs.Index.{holds};
 ghost use Rattle.dur_view.specs.Words.{stands, writer_line};
-ghost use Rattle.dur_view.specs.Full.{more_topics, more_writers, topic_place, new_writer, full};
+ghost use Rattle.dur_view.specs.Full.{more_topics, more_writers, topic_place, places_of, new_writer, full};
 
 use crate::copies::{copy_instances, copy_kept, copy_topics, copy_writers};
 use crate::{KeptWriter, View};
@@ -119,6 +119,18 @@ fn all_writers(
 }
 
 impl View {
+    /// Where the topics of the plan stand in the view, in the plan's order, or 0. Topics are one where their names are.
+    pub fn places(&self, plan: &Plan) -> Result<List<u32>, OutOfMemory>
+        requires { length self.now.topics < 2 ^ 32 }
+        ensures { IfOk result (λ l. l ≡ places_of plan.now self.now.topics) }
+    {
+        let mut places = List::new(self.topics.alloc());
+        for topic in plan.topics.as_slice() {
+            places.push(place_of(&topic.name, self.topics.as_slice()).unwrap_or(0))?;
+        }
+        Ok(places)
+    }
+
     /// The view with the topics and then the writers of the plan that it lacks, at the end and in the plan's order. The
     /// next number of a new writer is 1. Topics are one where their names are.
     pub fn full(&self, plan: &Plan) -> Result<View, OutOfMemory>

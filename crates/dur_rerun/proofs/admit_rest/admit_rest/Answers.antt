@@ -1,5 +1,5 @@
 use Rattle.std.proofs.Common.{arith, ap, [], ◌++◌, ◌∙◌}
-use Rattle.dur_store.specs.History.{History}
+use Rattle.one_topic.specs.History.{History}
 use Rattle.dur_rerun.specs.Admitting.{State}
 use Rattle.std.proofs.KnownBytes.{Consumes-trans, Consumes-nil}
 use Rattle.dur_rerun.proofs.Admits.{admits_more, feeds_first, feeds_next, place_next, admitted_whole, record_stops, broken_admitted}

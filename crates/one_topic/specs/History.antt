@@ -9,7 +9,7 @@ use Rattle.dur_base.specs.declared.sample.SetMark.TheVariants.{NoSet}
 use Rattle.dur_base.specs.declared.sample.Act.TheVariants.{Write}
 use Rattle.dur_base.specs.declared.entry.Entry.{Entry}
 use Rattle.dur_base.specs.declared.entry.Entry.TheVariants.{Took, Skip, Lost}
-use Rattle.dur_store.specs.declared.change.Change.{Change}
+use Rattle.one_topic.specs.declared.change.Change.{Change}
 
 -- what a store stands for: the topic's depth and the entries so far
 pub record History : Type 0 where
