@@ -1,0 +1,14 @@
+pub mod Grammar
+pub mod Run
+pub mod Fields
+pub mod Samples
+pub mod Entries
+pub mod Texts
+pub mod WholeTexts
+pub mod Faults
+pub mod Views
+pub mod Index
+pub mod OneReading
+pub mod Past
+pub mod Typed
+pub mod Readers
