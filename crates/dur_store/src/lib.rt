@@ -3,6 +3,8 @@
 
 mod refuse;
 mod store;
+#[cfg(test)]
+mod tests;
 
 pub use refuse::Refuse;
 pub use store::Store;
