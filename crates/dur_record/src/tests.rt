@@ -204,14 +204,14 @@ fn entries_are_written_and_read(rt: HostRuntime) {
     assert!(rt; entries_fault(alloc, out.as_slice()).is_none());
 }
 
-// The text of a skip to 20.
+// The text of a skip over 14 numbers.
 fn skip(alloc: Global, moment: u8, writer: u8, from: u8) -> Result<Octets, OutOfMemory> {
     let mut text = Octets::new(alloc);
     text.append(&[2])?;
     text.append(&u64_octets(u64::from(moment), true))?;
     text.append(&[writer; 16])?;
     text.append(&u64_octets(u64::from(from), true))?;
-    text.append(&u64_octets(20, true))?;
+    text.append(&u64_octets(u64::from(from) + 13, true))?;
     Ok(text)
 }
 
@@ -267,7 +267,7 @@ fn each_rule_of_following_at_its_field(rt: HostRuntime) {
             assert!(rt; after(alloc, &view, 8, 0xa1, 7) == Some(TextFault::BadField(1)));
             assert!(rt; after(alloc, &view, 9, 0xa2, 7) == Some(TextFault::BadField(9)));
             assert!(rt; after(alloc, &view, 9, 0xa1, 8) == Some(TextFault::BadField(25)));
-            // One record behind another: the second goes on behind 20, at the first one's moment or later.
+            // One record behind another: the second goes on behind 20, and at the first one's moment or later.
             assert!(rt; after_one(alloc, &view, 10, 21).is_none());
             assert!(rt; after_one(alloc, &view, 9, 21) == Some(TextFault::BadField(1)));
             assert!(rt; after_one(alloc, &view, 10, 7) == Some(TextFault::BadField(25)));
