@@ -1,19 +1,23 @@
 -- Records that are admitted one after the other.
-use Rattle.std.proofs.Common.{◌≡◌, ℕ, ◌+◌, ◌≤◌, ◌^◌, List, [], ◌∷◌, ◌++◌, length, Bool, true, false, Option, None, refl, sym, ap, subst, append_assoc, append-nil, length-append, arith, ◌⊎◌, inl, inr}
+use Rattle.std.proofs.Common.{◌≡◌, ℕ, ◌+◌, ◌≤◌, ◌^◌, List, [], ◌∷◌, ◌++◌, length, Bool, true, false, Option, None, Some, refl, sym, ap, subst, ◌∙◌, append_assoc, append-nil, length-append, arith, ◌⊎◌, inl, inr}
 use Rattle.std.specs.Prelude.{IfSome}
 use Rattle.std.specs.List.{flat_map}
 use Rattle.std.specs.Io.KnownBytes.{Consumes, IsAtEnd}
 use Rattle.std.proofs.KnownBytes.{Consumes-trans}
 use Rattle.dur_capture.specs.declared.record.Record.{Record}
 use Rattle.dur_capture.specs.declared.fault.CapFault.{CapFault}
-use Rattle.dur_capture.specs.declared.fault.CapFault.TheVariants.{LongDatagram, EndsInside, TooLong, OutOfMemory}
+use Rattle.dur_capture.specs.declared.fault.CapFault.TheVariants.{OutOfMemory}
 use Rattle.dur_capture.specs.Capture.{record_text}
 use Rattle.dur_capture.specs.Feeding.{Feeding, Takes, Breaks}
 use Rattle.dur_capture.specs.Whole.{Feeds}
 use Rattle.dur_capture.proofs.Runs.{takes_octets, goes_on, whole_is, stops_break, breaks_stay}
-use Rattle.dur_rerun.specs.Records.{given, HandsOut, Ends, BreaksOff}
-use Rattle.dur_rerun.specs.Admitting.{State, begin, Admits, AdmitsAll, IsOther}
-use Rattle.dur_rerun.specs.Listed.{AdmitsWhole, StopsAt, IsFaultOf}
+use Rattle.dur_rerun.specs.declared.status.Status.{Status}
+use Rattle.dur_rerun.specs.declared.status.Status.TheVariants.{Done, Usage, OutOfMemory as Memory, Input, ReadFault, WriteFault, Plan, NotYet}
+use Rattle.dur_rerun.specs.Input.Breaks.{place_at, EndsRecords}
+use Rattle.dur_rerun.specs.Input.Records.{given, HandsOut, Ends, BreaksOff, StopsRecords}
+use Rattle.dur_rerun.specs.List.Admission.{State, begin, Admits, AdmitsAll, IsOther}
+use Rattle.dur_rerun.specs.List.History.{AdmitsWhole, StopsAt, BreaksAdmitted, StopsRest, EndsRest}
+use Rattle.dur_rerun.proofs.Commands.{if_any}
 use Rattle.dur_rerun.proofs.Rest.{told, all_told}
 
 -- one record more
@@ -90,26 +94,58 @@ record_stops own writer before known mid now octets seen rs f g s r at place con
 
 -- ---- where the capture breaks off
 
-breaks_admitted : (own writer : List ℕ) (before : ℕ) (octets : List ℕ) (e : CapFault) (rs : List Record) (f : Feeding) (s : State) → Feeds before octets rs f → AdmitsAll own writer begin rs s → (e ≡ OutOfMemory) ⊎ Breaks f true e
-    → IsFaultOf own writer before octets e
-breaks_admitted own writer before octets OutOfMemory rs f s feeds admits b = tt
-breaks_admitted own writer before octets (LongDatagram place) rs f s feeds admits b = elim b [ inl other ↦ absurd cc | inr q ↦ record { records = rs; feed = f; state = s; feeds = feeds; breaks = q; admits = admits } ]
-breaks_admitted own writer before octets (EndsInside place) rs f s feeds admits b = elim b [ inl other ↦ absurd cc | inr q ↦ record { records = rs; feed = f; state = s; feeds = feeds; breaks = q; admits = admits } ]
-breaks_admitted own writer before octets (TooLong place) rs f s feeds admits b = elim b [ inl other ↦ absurd cc | inr q ↦ record { records = rs; feed = f; state = s; feeds = feeds; breaks = q; admits = admits } ]
+no_place : (e : CapFault) (place : ℕ) → place_at e ≡ Some place → e ≡ OutOfMemory → ⊥
+no_place e place named memory = let none : None ≡ Some place = sym (ap place_at memory) ∙ named in absurd cc
 
-broken_seen : (own writer : List ℕ) (before : ℕ) (known now : Option (List ℕ)) (octets seen : List ℕ) (ended : Bool) (e : CapFault) (rs : List Record) (f : Feeding) (s : State) → Consumes known now seen → (ended ≡ true → IsAtEnd now)
-    → Feeds before (octets ++ seen) rs f → AdmitsAll own writer begin rs s → (e ≡ OutOfMemory) ⊎ Breaks f ended e → IfSome known (λ tail. IsFaultOf own writer before (octets ++ tail) e)
-broken_seen own writer before known now octets seen true e rs f s consumed end feeds admits b =
-    all_told known now seen octets (λ t. IsFaultOf own writer before t e) consumed (end refl) (breaks_admitted own writer before (octets ++ seen) e rs f s feeds admits b)
-broken_seen own writer before known now octets seen false e rs f s consumed end feeds admits b =
-    told known now seen (λ tail. IsFaultOf own writer before (octets ++ tail) e) consumed
-    (λ more is. subst (λ (t : List ℕ). IsFaultOf own writer before t e) (append_assoc octets seen more)
-    (breaks_admitted own writer before ((octets ++ seen) ++ more) e rs (given more f) s (takes_octets before (octets ++ seen) rs f more feeds) admits
+breaks_admitted : (own writer : List ℕ) (before : ℕ) (octets : List ℕ) (e : CapFault) (place : ℕ) (rs : List Record) (f : Feeding) (s : State) → place_at e ≡ Some place → Feeds before octets rs f → AdmitsAll own writer begin rs s → (e ≡ OutOfMemory) ⊎ Breaks f true e
+    → BreaksAdmitted own writer before octets e
+breaks_admitted own writer before octets e place rs f s named feeds admits b = elim b [
+  | inl memory ↦ absurd (no_place e place named memory)
+  | inr q ↦ record { records = rs; feed = f; state = s; feeds = feeds; breaks = q; admits = admits }
+]
+
+broken_seen : (own writer : List ℕ) (before : ℕ) (known now : Option (List ℕ)) (octets seen : List ℕ) (ended : Bool) (e : CapFault) (place : ℕ) (rs : List Record) (f : Feeding) (s : State) → place_at e ≡ Some place → Consumes known now seen → (ended ≡ true → IsAtEnd now)
+    → Feeds before (octets ++ seen) rs f → AdmitsAll own writer begin rs s → (e ≡ OutOfMemory) ⊎ Breaks f ended e → IfSome known (λ tail. BreaksAdmitted own writer before (octets ++ tail) e)
+broken_seen own writer before known now octets seen true e place rs f s named consumed end feeds admits b =
+    all_told known now seen octets (λ t. BreaksAdmitted own writer before t e) consumed (end refl) (breaks_admitted own writer before (octets ++ seen) e place rs f s named feeds admits b)
+broken_seen own writer before known now octets seen false e place rs f s named consumed end feeds admits b =
+    told known now seen (λ tail. BreaksAdmitted own writer before (octets ++ tail) e) consumed
+    (λ more is. subst (λ (t : List ℕ). BreaksAdmitted own writer before t e) (append_assoc octets seen more)
+    (breaks_admitted own writer before ((octets ++ seen) ++ more) e place rs (given more f) s named (takes_octets before (octets ++ seen) rs f more feeds) admits
     (elim b [ inl m ↦ inl m | inr q ↦ inr (breaks_stay e f more q) ])))
 
-pub broken_admitted : (own writer : List ℕ) (before : ℕ) (known mid now : Option (List ℕ)) (octets seen : List ℕ) (e fault : CapFault) (rs : List Record) (f : Feeding) (s : State) → Consumes known mid seen → Feeds before (octets ++ seen) rs f
-    → BreaksOff mid now f e → AdmitsAll own writer begin rs s → e ≡ fault → IfSome known (λ tail. IsFaultOf own writer before (octets ++ tail) fault)
-broken_admitted own writer before known mid now octets seen e fault rs f s consumed feeds b admits same =
+broken_admitted : (own writer : List ℕ) (before : ℕ) (known mid now : Option (List ℕ)) (octets seen : List ℕ) (e : CapFault) (place : ℕ) (rs : List Record) (f : Feeding) (s : State) → place_at e ≡ Some place → Consumes known mid seen
+    → Feeds before (octets ++ seen) rs f → BreaksOff mid now f e → AdmitsAll own writer begin rs s → IfSome known (λ tail. BreaksAdmitted own writer before (octets ++ tail) e)
+broken_admitted own writer before known mid now octets seen e place rs f s named consumed feeds b admits =
     let fed = feeds_given before octets seen b.seen rs f feeds in
-    subst (λ (x : CapFault). IfSome known (λ tail. IsFaultOf own writer before (octets ++ tail) x)) same
-    (broken_seen own writer before known now octets (seen ++ b.seen) b.ended e rs (given b.seen f) s (Consumes-trans known mid now seen b.seen consumed b.consumed) b.end fed admits (stops_break e (given b.seen f) b.new b.ended fed.sound b.stops))
+    broken_seen own writer before known now octets (seen ++ b.seen) b.ended e place rs (given b.seen f) s named (Consumes-trans known mid now seen b.seen consumed b.consumed) b.end fed admits (stops_break e (given b.seen f) b.new b.ended fed.sound b.stops)
+
+-- no record came
+pub stops_admitted : (status : Status) (own writer : List ℕ) (before : ℕ) (known mid now : Option (List ℕ)) (octets seen : List ℕ) (rs : List Record) (f : Feeding) (s : State) → Consumes known mid seen → Feeds before (octets ++ seen) rs f → AdmitsAll own writer begin rs s
+    → EndsRecords status → StopsRecords mid now f status → IfSome known (λ tail. StopsRest own writer before (octets ++ tail) status)
+stops_admitted (Input place fault) own writer before known mid now octets seen rs f s consumed feeds admits ends stops =
+    broken_admitted own writer before known mid now octets seen fault place rs f s ends consumed feeds stops admits
+stops_admitted Memory own writer before known mid now octets seen rs f s consumed feeds admits ends stops = if_any known (λ tail. Unit {0}) (λ tail. tt)
+stops_admitted ReadFault own writer before known mid now octets seen rs f s consumed feeds admits ends stops = if_any known (λ tail. Unit {0}) (λ tail. tt)
+stops_admitted Done own writer before known mid now octets seen rs f s consumed feeds admits ends stops = absurd ends
+stops_admitted Usage own writer before known mid now octets seen rs f s consumed feeds admits ends stops = absurd ends
+stops_admitted WriteFault own writer before known mid now octets seen rs f s consumed feeds admits ends stops = absurd ends
+stops_admitted (Plan line kind) own writer before known mid now octets seen rs f s consumed feeds admits ends stops = absurd ends
+stops_admitted (NotYet place) own writer before known mid now octets seen rs f s consumed feeds admits ends stops = absurd ends
+
+-- the statuses of no record are statuses of no history
+pub records_rest_ends : (s : Status) → EndsRecords s → EndsRest s
+records_rest_ends (Input place fault) ends = ends
+records_rest_ends Memory ends = tt
+records_rest_ends ReadFault ends = tt
+records_rest_ends Done ends = absurd ends
+records_rest_ends Usage ends = absurd ends
+records_rest_ends WriteFault ends = absurd ends
+records_rest_ends (Plan line kind) ends = absurd ends
+records_rest_ends (NotYet place) ends = absurd ends
+
+pub memory_rest : (own writer : List ℕ) (before : ℕ) (known : Option (List ℕ)) (octets : List ℕ) (s : Status) → s ≡ Memory → EndsRest s × IfSome known (λ tail. StopsRest own writer before (octets ++ tail) s)
+memory_rest own writer before known octets s is = (
+  subst EndsRest (sym is) tt,
+  if_any known (λ tail. StopsRest own writer before (octets ++ tail) s) (λ tail. subst (StopsRest own writer before (octets ++ tail)) (sym is) tt),
+)

@@ -1,5 +1,5 @@
 -- Pieces of a source that are given to a feed one after the other.
-use Rattle.std.proofs.Common.{◌≡◌, ℕ, ◌+◌, ◌-◌, ◌<◌, ◌≤◌, ◌^◌, List, [], ◌++◌, length, take, Bool, true, false, Option, refl, sym, ap, subst, ◌∙◌, append_assoc, append-nil, arith}
+use Rattle.std.proofs.Common.{◌≡◌, ℕ, zero, suc, length-append, ◌+◌, ◌-◌, ◌<◌, ◌≤◌, ◌^◌, List, [], ◌++◌, length, take, Bool, true, false, Option, refl, sym, ap, subst, ◌∙◌, append_assoc, append-nil, arith}
 use Rattle.std.specs.Prelude.{nat_lt}
 use Rattle.std.proofs.lemmas.Bool.{ltb-true, ltb-false}
 use Rattle.std.proofs.lemmas.List.{length-take-le}
@@ -7,11 +7,13 @@ use Rattle.std.specs.Io.KnownBytes.{Consumes, IsAtEnd}
 use Rattle.std.proofs.KnownBytes.{Consumes-trans}
 use Rattle.dur_capture.specs.declared.record.Record.{Record}
 use Rattle.dur_capture.specs.declared.fault.CapFault.{CapFault}
+use Rattle.dur_capture.specs.declared.fault.CapFault.TheVariants as cap
+use Rattle.dur_capture.specs.Capture.{record_text}
 use Rattle.dur_capture.specs.Feeding.{Feeding, Takes, Waits, Stops}
-use Rattle.dur_rerun.specs.declared.records.NoRecord.TheVariants.{Capture}
-use Rattle.dur_rerun.specs.Records.{given, Refills, HandsOut, Ends, BreaksOff}
-use Rattle.dur_rerun.specs.Shown.{total}
-use Rattle.dur_rerun.proofs.Shows.{nearer}
+use Rattle.dur_rerun.specs.declared.status.Status.{Status}
+use Rattle.dur_rerun.specs.declared.status.Status.TheVariants.{Done, Usage, OutOfMemory, Input, ReadFault, WriteFault, Plan, NotYet}
+use Rattle.dur_rerun.specs.Input.Breaks.{capture_status, EndsRecords, EndsRefill}
+use Rattle.dur_rerun.specs.Input.Records.{total, given, Refills, HandsOut, Ends, BreaksOff, StopsRecords}
 
 pub given_more : (a b : List ℕ) (f : Feeding) → given b (given a f) ≡ given (a ++ b) f
 given_more a b f = ap (λ (l : List ℕ). record f { left = l }) (append_assoc f.left a b)
@@ -33,29 +35,77 @@ hands_out known now seen old mid new r consumed is takes = record {
   takes = subst (λ (f : Feeding). Takes f r new) is takes;
 }
 
-pub breaks_off : (e fault : CapFault) (known now : Option (List ℕ)) (seen : List ℕ) (old mid new : Feeding) (ended : Bool) → Consumes known now seen → (ended ≡ true → IsAtEnd now) → mid ≡ given seen old → Stops mid ended e new
-    → Capture e ≡ Capture fault → BreaksOff known now old fault
-breaks_off e fault known now seen old mid new ended consumed end is stops named =
-    let same : e ≡ fault = cc in
-    record {
-      seen = seen;
-      consumed = consumed;
-      ended = ended;
-      end = end;
-      new = new;
-      stops = subst (λ (x : CapFault). Stops (given seen old) ended x new) same (subst (λ (f : Feeding). Stops f ended e new) is stops);
-    }
+-- ---- how many octets came
 
--- where a feed that was given octets breaks off later
-pub breaks_later : (fault : CapFault) (known mid now : Option (List ℕ)) (seen : List ℕ) (old f : Feeding) → Consumes known mid seen → f ≡ given seen old → BreaksOff mid now f fault → BreaksOff known now old fault
-breaks_later fault known mid now seen old f consumed is breaks = record {
-  seen = seen ++ breaks.seen;
-  consumed = Consumes-trans known mid now seen breaks.seen consumed breaks.consumed;
-  ended = breaks.ended;
-  end = breaks.end;
-  new = breaks.new;
-  stops = subst (λ (g : Feeding). Stops g breaks.ended fault breaks.new) (ap (given breaks.seen) is ∙ given_more seen breaks.seen old) breaks.stops;
+-- a record that is handed out changes no total
+pub total_kept : (f g : Feeding) (r : Record) → Takes f r g → total g ≡ total f
+total_kept f g r takes =
+    let taken : g.taken ≡ f.taken + length (record_text r) = ap (λ (x : Feeding). x.taken) takes.after in
+    let before : g.before ≡ f.before = ap (λ (x : Feeding). x.before) takes.after in
+    omega (arith, taken, before, ap length takes.parts, length-append (record_text r) g.left)
+
+pub total_grows : (f g : Feeding) (piece : List ℕ) → g ≡ record f { left = f.left ++ piece } → total g ≡ total f + length piece
+total_grows f g piece is =
+    let same : total g ≡ f.before + f.taken + length (f.left ++ piece) = ap total is in
+    omega (arith, same, length-append f.left piece)
+
+-- a piece that is not empty brings the reading nearer to the limit
+pub nearer : (head f g : Feeding) (piece : List ℕ) (count : ℕ) → total f ≡ total head → Waits f false → g ≡ record f { left = f.left ++ piece } → length piece ≡ count → (count ≡ 0 → ⊥) → count ≤ 65536
+    → (2 ^ 40 + 65536 - total g) < (2 ^ 40 + 65536 - total head)
+nearer head f g piece zero same waits is len some most = absurd (some refl)
+nearer head f g piece (suc n) same waits is len some most = omega (arith, same, waits.within, total_grows f g piece is, len, most)
+
+-- ---- the status of a fault
+
+pub ends_records : (e : CapFault) (s : Status) → s ≡ capture_status e → EndsRecords s
+ends_records e s is = subst EndsRecords (sym is) (of e) where
+  of : (x : CapFault) → EndsRecords (capture_status x)
+  of cap.OutOfMemory = tt
+  of (cap.LongDatagram place) = refl
+  of (cap.EndsInside place) = refl
+  of (cap.TooLong place) = refl
+
+breaks_off : (e : CapFault) (known now : Option (List ℕ)) (seen : List ℕ) (old mid new : Feeding) (ended : Bool) → Consumes known now seen → (ended ≡ true → IsAtEnd now) → mid ≡ given seen old → Stops mid ended e new → BreaksOff known now old e
+breaks_off e known now seen old mid new ended consumed end is stops = record {
+  seen = seen;
+  consumed = consumed;
+  ended = ended;
+  end = end;
+  new = new;
+  stops = subst (λ (f : Feeding). Stops f ended e new) is stops;
 }
+
+pub stops_records : (e : CapFault) (s : Status) (known now : Option (List ℕ)) (seen : List ℕ) (old mid new : Feeding) (ended : Bool) → s ≡ capture_status e → Consumes known now seen → (ended ≡ true → IsAtEnd now) → mid ≡ given seen old → Stops mid ended e new
+    → StopsRecords known now old s
+stops_records e s known now seen old mid new ended named consumed end is stops = subst (StopsRecords known now old) (sym named) (of e stops) where
+  of : (x : CapFault) → Stops mid ended x new → StopsRecords known now old (capture_status x)
+  of cap.OutOfMemory h = tt
+  of (cap.LongDatagram place) h = breaks_off (cap.LongDatagram place) known now seen old mid new ended consumed end is h
+  of (cap.EndsInside place) h = breaks_off (cap.EndsInside place) known now seen old mid new ended consumed end is h
+  of (cap.TooLong place) h = breaks_off (cap.TooLong place) known now seen old mid new ended consumed end is h
+
+-- no piece came
+pub refill_ends : (s : Status) → EndsRefill s → EndsRecords s
+refill_ends ReadFault ends = tt
+refill_ends OutOfMemory ends = tt
+refill_ends Done ends = absurd ends
+refill_ends Usage ends = absurd ends
+refill_ends WriteFault ends = absurd ends
+refill_ends (Input place fault) ends = absurd ends
+refill_ends (Plan line kind) ends = absurd ends
+refill_ends (NotYet place) ends = absurd ends
+
+pub refill_stops : (s : Status) (known now : Option (List ℕ)) (old : Feeding) → EndsRefill s → StopsRecords known now old s
+refill_stops ReadFault known now old ends = tt
+refill_stops OutOfMemory known now old ends = tt
+refill_stops Done known now old ends = absurd ends
+refill_stops Usage known now old ends = absurd ends
+refill_stops WriteFault known now old ends = absurd ends
+refill_stops (Input place fault) known now old ends = absurd ends
+refill_stops (Plan line kind) known now old ends = absurd ends
+refill_stops (NotYet place) known now old ends = absurd ends
+
+-- ---- pieces
 
 -- the source is at its end, and the feed waits
 pub ends : (known mid now : Option (List ℕ)) (seen : List ℕ) (old f g new : Feeding) (more : Bool) → Consumes known mid seen → f ≡ given seen old → Refills mid now f g more → more ≡ false → Waits g true × (new ≡ g) → Ends known now old new
@@ -71,7 +121,7 @@ not_none : (piece : List ℕ) → 0 < length piece → length piece ≡ 0 → �
 not_none piece some none = absurd (omega (arith, some, none))
 
 -- a piece brings the reading nearer to the limit
-pub refill_nearer : (known now : Option (List ℕ)) (head f g : Feeding) (more : Bool) → f ≡ head → Waits head false → Refills known now f g more → more ≡ true → (2 ^ 40 + 4096 - total g) < (2 ^ 40 + 4096 - total head)
+pub refill_nearer : (known now : Option (List ℕ)) (head f g : Feeding) (more : Bool) → f ≡ head → Waits head false → Refills known now f g more → more ≡ true → (2 ^ 40 + 65536 - total g) < (2 ^ 40 + 65536 - total head)
 refill_nearer known now head f g more is waits r some =
     nearer head f g r.piece (length r.piece) (ap total is) (subst (λ (h : Feeding). Waits h false) (sym is) waits) r.given_is refl (not_none r.piece (r.some some)) r.few
 
@@ -79,7 +129,7 @@ nothing_taken : (n : ℕ) (buf : List ℕ) → n ≤ 0 → take n buf ≡ []
 nothing_taken n buf few = let none : n ≡ 0 = omega (arith, few) in ap (λ (k : ℕ). take k buf) none
 
 -- a read of so many octets
-pub refills : (known now : Option (List ℕ)) (buf : List ℕ) (n : ℕ) (old new : Feeding) → n ≤ length buf → length buf ≤ 4096 → Consumes known now (take n buf) → (n ≡ 0 → IsAtEnd now) → new ≡ given (take n buf) old
+pub refills : (known now : Option (List ℕ)) (buf : List ℕ) (n : ℕ) (old new : Feeding) → n ≤ length buf → length buf ≤ 65536 → Consumes known now (take n buf) → (n ≡ 0 → IsAtEnd now) → new ≡ given (take n buf) old
     → Refills known now old new (nat_lt 0 n)
 refills known now buf n old new within few consumed end is =
     let size : length (take n buf) ≡ n = length-take-le n buf within in

@@ -1,12 +1,12 @@
 pub mod Admits
+pub mod Commands
 pub mod Handing
-pub mod ListComplete
 pub mod Lists
 pub mod OneAnswer
+pub mod OneShow
 pub mod OneWay
+pub mod Opens
+pub mod Rest
 pub mod Says
 pub mod Shows
-pub mod Rest
-pub mod Opens
 pub mod Whole
-pub mod Complete

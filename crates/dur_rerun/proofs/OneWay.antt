@@ -13,8 +13,8 @@ use Rattle.dur_capture.proofs.Runs.{one_capture}
 use Rattle.dur_capture.proofs.First.{within_splits, break_stuck, one_first, no_break}
 use Rattle.rtps_message.specs.declared.heard.Heard.{Heard}
 use Rattle.rtps_message.proofs.Once.{hears_once}
-use Rattle.dur_rerun.specs.Admitting.{State, begin, at_moment, after_facts, Admits, IsOther, AdmitsAll}
-use Rattle.dur_rerun.specs.Listed.{AdmitsWhole, StopsAt, BreaksAdmitted}
+use Rattle.dur_rerun.specs.List.Admission.{State, begin, at_moment, after_facts, Admits, IsOther, AdmitsAll}
+use Rattle.dur_rerun.specs.List.History.{AdmitsWhole, StopsAt, BreaksAdmitted}
 
 -- ---- one record
 

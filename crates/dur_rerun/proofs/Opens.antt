@@ -1,19 +1,23 @@
 -- The plan in front of a capture.
-use Rattle.std.proofs.Common.{◌≡◌, ℕ, suc, ◌+◌, ◌≤◌, ◌^◌, List, [], ◌∷◌, ◌++◌, length, take, drop, Bool, true, cond, Option, Some, None, Err, refl, sym, ap, subst, ◌∙◌, append-nil, length-append, arith, ◌⊎◌, inl, inr}
-use Rattle.std.specs.Prelude.{IfSome}
+use Rattle.std.proofs.Common.{◌≡◌, ℕ, suc, ◌+◌, ◌≤◌, ◌^◌, List, [], ◌∷◌, ◌++◌, length, take, drop, Bool, true, cond, Option, Some, None, Result, Ok, Err, refl, sym, ap, subst, ◌∙◌, append-nil, length-append, arith, ◌⊎◌, inl, inr}
+use Rattle.std.specs.Prelude.{IfSome, IfOk, IfErr, OnOk}
 use Rattle.std.specs.Io.KnownBytes.{Consumes, IsAtEnd}
 use Rattle.std.proofs.lemmas.Bool.{cases_Bool}
 use Rattle.dur_qos.specs.declared.fault.PlanFault.{PlanFault}
-use Rattle.dur_qos.specs.declared.fault.PlanKind.TheVariants.{OutOfMemory}
+use Rattle.dur_qos.specs.declared.fault.PlanKind.{PlanKind}
+use Rattle.dur_qos.specs.declared.fault.PlanKind.TheVariants as kind
 use Rattle.dur_qos.specs.Reading.{Reading, start, after, taken, octet, is_done, RunsOut}
 use Rattle.dur_qos.specs.Text.{PlanText, IsFault}
 use Rattle.dur_qos.proofs.Runs.{after_append, taken_append}
 use Rattle.dur_qos.proofs.Texts.{no_further}
 use Rattle.dur_qos.proofs.Verdicts.{ended_plan, push_says, finish_says}
 use Rattle.bytes.proofs.Ranges.{take-append_past}
-use Rattle.dur_rerun.specs.declared.open.Opened.{Opened}
-use Rattle.dur_rerun.specs.declared.open.NoPlan.TheVariants as no
-use Rattle.dur_rerun.specs.Opened.{Begins, Opens, Ended}
+use Rattle.dur_rerun.specs.declared.input.plan.Opened.{Opened}
+use Rattle.dur_rerun.specs.declared.status.Status.{Status}
+use Rattle.dur_rerun.specs.declared.status.Status.TheVariants.{OutOfMemory}
+use Rattle.dur_rerun.specs.Input.Breaks.{line_status, plan_status, PlanBreaks, EndsPlan, StopsPlan}
+use Rattle.dur_rerun.specs.Input.Plan.{Begins, Opens, EndsReading}
+use Rattle.dur_rerun.proofs.Commands.{if_any}
 use Rattle.dur_rerun.proofs.Rest.{told, none_left}
 
 pub taken_most : (r : Reading) (bs : List ℕ) → taken r bs ≤ length bs
@@ -68,33 +72,71 @@ piece_taken seen piece r n count reads all is len most =
 pub reads_piece : (seen piece : List ℕ) (r g : Reading) → r ≡ after start seen → g ≡ after r piece → g ≡ after start (seen ++ piece)
 reads_piece seen piece r g reads step = step ∙ ap (λ (x : Reading). after x piece) reads ∙ sym (after_append start seen piece)
 
+-- ---- the status of a fault
+
+ends_line : (line : ℕ) (k : PlanKind) → EndsPlan (line_status line k)
+ends_line line kind.OutOfMemory = tt
+ends_line line kind.Word = λ no. absurd cc
+ends_line line kind.Number = λ no. absurd cc
+ends_line line kind.Twice = λ no. absurd cc
+ends_line line kind.UnknownTopic = λ no. absurd cc
+ends_line line kind.DepthAboveLimit = λ no. absurd cc
+ends_line line kind.TooMany = λ no. absurd cc
+
+pub ends_fault : (e : PlanFault) (s : Status) → s ≡ plan_status e → EndsPlan s
+ends_fault e s is = subst EndsPlan (sym is) (ends_line e.line e.kind)
+
+stops_line : (bytes : List ℕ) (line : ℕ) (k : PlanKind) → (k ≡ kind.OutOfMemory) ⊎ PlanBreaks bytes line k → StopsPlan bytes (line_status line k)
+stops_line bytes line kind.OutOfMemory h = tt
+stops_line bytes line kind.Word h = elim h [ inl other ↦ absurd cc | inr b ↦ b ]
+stops_line bytes line kind.Number h = elim h [ inl other ↦ absurd cc | inr b ↦ b ]
+stops_line bytes line kind.Twice h = elim h [ inl other ↦ absurd cc | inr b ↦ b ]
+stops_line bytes line kind.UnknownTopic h = elim h [ inl other ↦ absurd cc | inr b ↦ b ]
+stops_line bytes line kind.DepthAboveLimit h = elim h [ inl other ↦ absurd cc | inr b ↦ b ]
+stops_line bytes line kind.TooMany h = elim h [ inl other ↦ absurd cc | inr b ↦ b ]
+
+stops_fault : (bytes : List ℕ) (e : PlanFault) (s : Status) → s ≡ plan_status e → (e.kind ≡ kind.OutOfMemory) ⊎ IsFault bytes e → StopsPlan bytes s
+stops_fault bytes e s is h = subst (StopsPlan bytes) (sym is) (stops_line bytes e.line e.kind h)
+
 -- a fault at a piece
-pub push_told : (known now : Option (List ℕ)) (seen piece : List ℕ) (r g : Reading) (e fault : PlanFault) → Consumes known now (seen ++ piece) → r ≡ after start seen
-    → (g.fault ≡ Some e) × (RunsOut r piece g ⊎ (g ≡ after r piece)) → no.Plan e ≡ no.Plan fault
-    → IfSome known (λ bytes. (fault.kind ≡ OutOfMemory) ⊎ IsFault bytes fault)
-push_told known now seen piece r g e fault consumed reads err is =
-    let same : e ≡ fault = cc in
-    told known now (seen ++ piece) (λ bytes. (fault.kind ≡ OutOfMemory) ⊎ IsFault bytes fault) consumed
-    (λ more left. subst (λ (f : PlanFault). (f.kind ≡ OutOfMemory) ⊎ IsFault ((seen ++ piece) ++ more) f) same (push_says ((seen ++ piece) ++ more) seen piece more r g e reads refl err).1)
+pub push_told : (known now : Option (List ℕ)) (seen piece : List ℕ) (r g : Reading) (e : PlanFault) (s : Status) → s ≡ plan_status e → Consumes known now (seen ++ piece) → r ≡ after start seen
+    → (g.fault ≡ Some e) × (RunsOut r piece g ⊎ (g ≡ after r piece)) → IfSome known (λ bytes. StopsPlan bytes s)
+push_told known now seen piece r g e s is consumed reads err =
+    told known now (seen ++ piece) (λ bytes. StopsPlan bytes s) consumed
+    (λ more left. stops_fault ((seen ++ piece) ++ more) e s is (push_says ((seen ++ piece) ++ more) seen piece more r g e reads refl err).1)
+
+-- a reading that ends without a plan
+pub ends_reading : (r : Reading) (s : Status) → EndsReading r s → EndsPlan s
+ends_reading r s err = elim err [ inl memory ↦ subst EndsPlan (sym memory) tt | inr told ↦ ends_fault told.0 s told.2 ]
 
 -- a fault at the end of the input
-pub last_told : (known now : Option (List ℕ)) (seen : List ℕ) (r : Reading) (e fault : PlanFault) → Consumes known now seen → IsAtEnd now → r ≡ after start seen
-    → (e.kind ≡ OutOfMemory) ⊎ Ended r e → no.Plan e ≡ no.Plan fault
-    → IfSome known (λ bytes. (fault.kind ≡ OutOfMemory) ⊎ IsFault bytes fault)
-last_told known now seen r e fault consumed end reads err is =
-    let same : e ≡ fault = cc in
-    let says : (e.kind ≡ OutOfMemory) ⊎ IsFault seen e = elim err [ inl memory ↦ inl memory | inr ended ↦ (finish_says seen r (Err e) reads tt ended).1 ] in
-    told known now seen (λ bytes. (fault.kind ≡ OutOfMemory) ⊎ IsFault bytes fault) consumed
-    (λ more left. subst (λ (l : List ℕ). (fault.kind ≡ OutOfMemory) ⊎ IsFault l fault) (sym (ap (λ (t : List ℕ). seen ++ t) (none_left now more end left) ∙ append-nil seen))
-    (subst (λ (f : PlanFault). (f.kind ≡ OutOfMemory) ⊎ IsFault seen f) same says))
+pub last_told : (known now : Option (List ℕ)) (seen : List ℕ) (r : Reading) (s : Status) → Consumes known now seen → IsAtEnd now → r ≡ after start seen → EndsReading r s → IfSome known (λ bytes. StopsPlan bytes s)
+last_told known now seen r s consumed end reads err =
+    told known now seen (λ bytes. StopsPlan bytes s) consumed
+    (λ more left. subst (λ (l : List ℕ). StopsPlan l s) (sym (ap (λ (t : List ℕ). seen ++ t) (none_left now more end left) ∙ append-nil seen))
+    (elim err [
+      | inl memory ↦ subst (StopsPlan seen) (sym memory) tt
+      | inr fault ↦ stops_fault seen fault.0 s fault.2 (finish_says seen r (Err fault.0) reads tt fault.1).1
+    ]))
 
 -- want of memory
-pub memory_told : (known : Option (List ℕ)) (e fault : PlanFault) → e.kind ≡ OutOfMemory → no.Plan e ≡ no.Plan fault → IfSome known (λ bytes. (fault.kind ≡ OutOfMemory) ⊎ IsFault bytes fault)
-memory_told None e fault memory is = tt
-memory_told (Some all) e fault memory is = let same : e ≡ fault = cc in inl (subst (λ (f : PlanFault). f.kind ≡ OutOfMemory) same memory)
+pub memory_told : (known : Option (List ℕ)) (s : Status) → s ≡ OutOfMemory → IfSome known (λ bytes. StopsPlan bytes s)
+memory_told known s is = if_any known (λ bytes. StopsPlan bytes s) (λ bytes. subst (StopsPlan bytes) (sym is) tt)
 
 pub sized : (seen piece : List ℕ) (before count : ℕ) → before ≡ length seen → length piece ≡ count → before + count ≡ length (seen ++ piece)
 sized seen piece before count size len = omega (arith, size, len, length-append seen piece)
 
 pub text_more : (seen old new piece : List ℕ) → old ≡ seen → new ≡ old ++ piece → new ≡ seen ++ piece
 text_more seen old new piece is step = step ∙ ap (λ (l : List ℕ). l ++ piece) is
+
+-- what a reading that ended with the input makes
+pub opened_last : (result : Result Opened Status) (known now : Option (List ℕ)) (seen text : List ℕ) (r : Reading) (before : ℕ) → r ≡ after start seen → before ≡ length seen → taken start seen ≡ length seen
+    → OnOk result ((r.fault ≡ None) × (r.ended ≡ true)) → IfOk result (λ o. (r.plan ≡ Some o.plan) × Begins (text ++ []) (before + 0) [] o) → text ≡ seen → Consumes known now seen → before ≤ 2 ^ 40
+    → IfOk result (λ o. (x : List ℕ) × Consumes known now x × Opens x o)
+opened_last (Ok o) known now seen text r before reads size all ended ok is consumed within = (seen, consumed, opens_last seen text r before o reads size all ended ok.0 is ok.1 within)
+opened_last (Err s) known now seen text r before reads size all ended ok is consumed within = tt
+
+-- where it made none
+pub ended_last : (result : Result Opened Status) (known now : Option (List ℕ)) (seen : List ℕ) (r : Reading) → Consumes known now seen → IsAtEnd now → r ≡ after start seen → IfErr result (λ s. EndsReading r s) → IfErr result (λ s. IfSome known (λ bytes. StopsPlan bytes s))
+ended_last (Ok o) known now seen r consumed end reads err = tt
+ended_last (Err s) known now seen r consumed end reads err = last_told known now seen r s consumed end reads err

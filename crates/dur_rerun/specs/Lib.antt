@@ -1,12 +1,5 @@
-pub mod Admitted
-pub mod Admitting
-pub mod Line
-pub mod ListLine
-pub mod Listed
-pub mod Listing
-pub mod OneTopic
-pub mod Opened
-pub mod Records
+pub mod Command
+pub mod Input
+pub mod List
 pub mod Saying
-pub mod Shown
-pub mod Showing
+pub mod Show

@@ -1,5 +1,10 @@
 //! What became of a run.
 
+ghost use Rattle.std.specs.Prelude.{◌≡◌};
+ghost use Rattle.dur_rerun.specs.declared.status.Status.TheVariants as status;
+ghost use Rattle.dur_rerun.specs.Command.{status_of};
+
+use dur_base::OutOfMemory;
 use dur_capture::CapFault;
 use dur_qos::PlanKind;
 
@@ -26,6 +31,14 @@ pub enum Status {
     NotYet(u64),
 }
 
+impl From<OutOfMemory> for Status {
+    ghost from_gives = { λ _ s. s ≡ status.OutOfMemory };
+
+    fn from(_: OutOfMemory) -> Status {
+        Status::OutOfMemory
+    }
+}
+
 /// A status, and the rig that was handed in.
 #[derive(Drop)]
 pub struct Ran<R> {
@@ -33,4 +46,14 @@ pub struct Ran<R> {
     pub status: Status,
     /// The rig.
     pub rig: R,
+}
+
+/// What became of a run that ends early by an error.
+pub fn status_of(ended: Result<(), Status>) -> Status
+    ensures { result ≡ status_of ended }
+{
+    match ended {
+        Ok(()) => Status::Done,
+        Err(status) => status,
+    }
 }

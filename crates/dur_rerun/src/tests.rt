@@ -1,7 +1,9 @@
 //! Records with a whole message, a faulty one and one that is too short.
 
-use crate::{Status, breaks_are_first_breaks, list, one_answer, show};
-use dur_base::{List, Octets};
+use crate::list::{breaks_are_first_breaks, list};
+use crate::show::show;
+use crate::{Status, list as listing, show as showing};
+use dur_base::{List, Octets, Ticks};
 use dur_capture::CapFault;
 use dur_outside::{MemDisk, MemRig, MemSink, MemSource};
 use dur_qos::PlanKind;
@@ -75,13 +77,14 @@ fn what_breaks_first_is_named(rt: HostRuntime) {
 fn a_written_sample_is_listed(rt: HostRuntime) {
     let alloc = rt.alloc();
     let mut input = source(alloc, PLAN, WRITTEN, b"");
-    let ran = list(alloc, 0, &mut input, rig(alloc));
+    let ran = list(alloc, Ticks(0), 0, &mut input, rig(alloc));
     let (_, out) = ran.rig.parts();
     assert!(rt; ran.status == Status::Done);
     assert!(rt;
         out.written().as_slice()
             == b"T a1a1a1a1a1a1a1a1a1a1a1a100000102 1 aaaaaaaaaaaaaaaaaaaaaaaaaaaaaaaa write 9 000100002a000000\n".as_slice()
     );
-    one_answer();
+    listing::one_answer();
+    showing::one_answer();
     breaks_are_first_breaks();
 }

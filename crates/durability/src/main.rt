@@ -11,14 +11,18 @@ use dur_outside::{OutputRig, StdSink, StdSource};
 use dur_rerun::Status;
 use run::durability;
 use status::{number, say_fault};
-use std::env;
 use std::process::ExitCode;
+use std::{env, io};
 
 fn main(rt: HostRuntime) -> ExitCode {
     let mut err = StdSink::new(rt.stderr());
-    let Ok(words) = read_args(&rt) else {
-        say_fault(&mut err, Status::OutOfMemory);
-        return ExitCode::from(number(Status::OutOfMemory));
+    let words = match read_args(&rt) {
+        Ok(words) => words,
+        Err(error) => {
+            let status = status_of_words(&error);
+            say_fault(&mut err, status);
+            return ExitCode::from(number(status));
+        }
     };
     let mut input = StdSource::new(rt.stdin());
     let rig = OutputRig::new(StdSink::new(rt.stdout()));
@@ -26,8 +30,16 @@ fn main(rt: HostRuntime) -> ExitCode {
     ExitCode::from(number(ran.status))
 }
 
+/// The status where the words cannot be had: a word that is no UTF-8 is a faulty command line.
+fn status_of_words(error: &io::Error) -> Status {
+    match error.kind() {
+        io::ErrorKind::OutOfMemory => Status::OutOfMemory,
+        _ => Status::Usage,
+    }
+}
+
 /// The words after the program's name.
-fn read_args(rt: &HostRuntime) -> std::io::Result<Vec<String>> {
+fn read_args(rt: &HostRuntime) -> io::Result<Vec<String>> {
     let mut words = Vec::new(rt.alloc());
     for word in env::args(rt)?.skip(1) {
         words.push(word)?;

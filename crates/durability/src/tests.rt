@@ -6,7 +6,7 @@ use dur_base::{List, Octets};
 use dur_capture::CapFault;
 use dur_outside::{MemDisk, MemRig, MemSink, MemSource};
 use dur_qos::PlanKind;
-use dur_rerun::{Status, breaks_are_first_breaks, one_answer};
+use dur_rerun::{Status, list, show};
 use std::alloc::Global;
 
 const PLAN: &[u8] = b"prefix 0102030405060708\ntopic T transient hash 1 - - - - 0\n\
@@ -125,8 +125,9 @@ fn other_forms_and_words_are_named(rt: HostRuntime) {
             b"durability: not yet 197\n"
         )
     );
-    one_answer();
-    breaks_are_first_breaks();
+    list::one_answer();
+    list::breaks_are_first_breaks();
+    show::one_answer();
     let done = run(alloc, "lists", FIRST, b"", none(alloc));
     assert!(rt; gives(&done, Status::Usage, b"", b"durability: usage\n"));
 }
@@ -174,6 +175,23 @@ fn records_are_shown_up_to_a_break(rt: HostRuntime) {
         )
     );
     assert!(rt; number(done.status) == 4);
+}
+
+/// The head of a record of 65,508 octets.
+const LONG: &[u8] = b"\x05\x00\x00\x00\x00\x00\x00\x00\x00\x00\xe4\xff\x00\x00";
+
+#[test]
+fn a_datagram_is_no_longer_than_udp_has_it(rt: HostRuntime) {
+    let alloc = rt.alloc();
+    let done = run(alloc, "show", LONG, b"", none(alloc));
+    assert!(rt;
+        gives(
+            &done,
+            Status::Input(10, CapFault::LongDatagram(10)),
+            b"",
+            b"durability: input 10 LongDatagram\n"
+        )
+    );
 }
 
 /// A run of one word over a plan whose second and third line are these.

@@ -1,7 +1,27 @@
 //! The command line.
 
-ghost use Rattle.std.specs.Prelude.{◌≡◌, ◌↔◌, map, string_bytes, codes, IsTrue};
-ghost use Rattle.durability.specs.CommandLine.{IsList, IsShow};
+ghost use Rattle.std.specs.Prelude.{◌≡◌, ◌↔◌, map, string_bytes, codes, IsTrue, IfSome, IfNone};
+ghost use Rattle.durability.specs.CommandLine.{IsLine};
+ghost use Rattle.durability.specs.declared.words.Line.{Line as Asked};
+
+use dur_base::Ticks;
+
+/// A command line: what the words after the program's name ask for.
+#[derive(Clone, Copy, Debug, PartialEq, Eq, Drop)]
+pub enum Line {
+    /// The listing of what a late reader is entitled to.
+    List {
+        /// The moment of the listing, in ticks of 2^-32 s. The greatest moment of the records counts where it is later.
+        at: Ticks,
+        /// The epoch of the service.
+        epoch: u32,
+    },
+    /// A line for each record.
+    Show {
+        /// The epoch of the service.
+        epoch: u32,
+    },
+}
 
 fn is_list_word(word: &String) -> bool
     ensures { IsTrue result ↔ (string_bytes word.now ≡ codes "list") }
@@ -15,22 +35,22 @@ fn is_show_word(word: &String) -> bool
     word.as_str() == "show"
 }
 
-/// Whether the words after the program's name are the one word `list`.
-pub fn is_list(words: &[String]) -> bool
-    ensures { IsTrue result ↔ IsList (map string_bytes words.now) }
+/// The command line that the words after the program's name are, or None exactly where they are none.
+pub fn read_words(words: &[String]) -> Option<Line>
+    ensures line { IfSome result (λ line. IsLine (map string_bytes words.now) line) }
+    ensures none { IfNone result ((line : Asked) → IsLine (map string_bytes words.now) line → ⊥) }
 {
     match words {
-        [word, more @ ..] => more.is_empty() && is_list_word(word),
-        [] => false,
-    }
-}
-
-/// Whether they are the one word `show`.
-pub fn is_show(words: &[String]) -> bool
-    ensures { IsTrue result ↔ IsShow (map string_bytes words.now) }
-{
-    match words {
-        [word, more @ ..] => more.is_empty() && is_show_word(word),
-        [] => false,
+        [word] => if is_list_word(word) {
+            Some(Line::List {
+                at: Ticks(0),
+                epoch: 0,
+            })
+        } else if is_show_word(word) {
+            Some(Line::Show { epoch: 0 })
+        } else {
+            None
+        },
+        _ => None,
     }
 }

@@ -1,0 +1,5 @@
+use Rattle.dur_rerun.proofs.OneAnswer.{list_function}
+use Rattle.dur_rerun.proofs.list.laws.one_answer.Goals as goal
+
+pub returns : goal.returns
+returns c = list_function

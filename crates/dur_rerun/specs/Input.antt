@@ -1,0 +1,4 @@
+pub mod Breaks
+pub mod Plan
+pub mod Prefix
+pub mod Records

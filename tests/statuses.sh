@@ -1,0 +1,51 @@
+#!/usr/bin/env bash
+# Runs the program into each status with which a process of it ends, and compares the status, the line that
+# it says, and for the status 0 what it prints.
+#
+#     statuses.sh [PROGRAM]
+set -u
+cd "$(dirname "$0")/.."
+program=${1:-$(tests/program.sh)} || exit 1
+folder=$(mktemp -d)
+trap 'rm -rf "$folder"' EXIT
+failed=0
+export program
+plan=examples/first/plan.txt
+guid='\241\241\241\241\241\241\241\241\241\241\241\241'
+cat "$plan" examples/first/capture.bin > "$folder/input"
+(cat "$plan"; printf '\0\0\0\0\0\0\0\0\0\0\344\377\0\0') > "$folder/long"
+(cat "$plan"; printf '\0\0\0\0\0\0\0\0\0\0\1\0\0\0\0') > "$folder/other"
+printf 'prefix 0102030405060708\ntopic\n' > "$folder/bad_plan"
+# A capture of 30,000 samples, which is more than 6 MB hold.
+cp "$plan" "$folder/many"
+for number in {1..30000}; do
+    printf -v low '\\x%02x\\x%02x' $((number % 256)) $((number / 256))
+    printf "\5\0\0\0\0\0\0\0\0\0\114\0\0\0RTPS\2\5\0\0$guid\25\7\64\0\0\0\20\0\0\0\0\0\0\0\1\2\0\0\0\0$low\0\0\160\0\20\0"
+    printf '\252%.0s' {1..16}
+    printf '\1\0\0\0\0\1\0\0\52\0\0\0'
+done >> "$folder/many"
+export folder
+
+# A command line must end with this status, and say this line.
+ends() {
+    said=$(bash -c "$3" 2>&1 > "$folder/printed")
+    status=$?
+    if [ "$status" != "$1" ] || [ "$said" != "$2" ]; then
+        echo "tests/statuses.sh: $3: ended with $status and said: $said"
+        failed=1
+    fi
+}
+
+ends 0 '' '"$program" list < "$folder/input"'
+[ -s "$folder/printed" ] || { echo "tests/statuses.sh: list printed nothing"; failed=1; }
+ends 2 'durability: usage' '"$program"'
+ends 2 'durability: usage' '"$program" lists < "$folder/input"'
+ends 2 'durability: usage' '"$program" $'"'"'\xff'"'"' < "$folder/input"'
+ends 3 'durability: out of memory' 'ulimit -v 6000; "$program" list < "$folder/many"'
+ends 4 'durability: input 10 LongDatagram' '"$program" show < "$folder/long"'
+ends 5 'durability: read fault' '"$program" show < /'
+ends 6 'durability: write fault' '"$program" show < "$folder/input" > /dev/full'
+ends 8 'durability: plan 2 Word' '"$program" show < "$folder/bad_plan"'
+ends 14 "durability: not yet $(wc -c < "$plan")" '"$program" list < "$folder/other"'
+[ "$failed" = 0 ] && echo "each status: as its input calls for"
+exit "$failed"
