@@ -1,0 +1,12 @@
+pub mod Replays
+pub mod Members
+pub mod Together
+pub mod Sets
+pub mod Sessions
+pub mod LateReaders
+pub mod Standing
+pub mod Room
+pub mod Handling
+pub mod Worlds
+pub mod Law
+pub mod Turns
