@@ -4,7 +4,7 @@ import os
 
 LAYERS = [
     ("program", [("durability", "command line, listing"), ("dur_rerun", "statuses, show")]),
-    ("histories", [("dur_store", "history of a topic"), ("dur_view", "definitions and laws")]),
+    ("histories", [("dur_store", "history of a topic"), ("dur_view", "definitions and laws"), ("rel_writer", "sessions, late readers")]),
     ("streams", [("dur_capture", "records of a capture"), ("dur_qos", "plan text"), ("rel_reader", "known numbers")]),
     ("wire", [("rtps_params", "parameter lists"), ("rtps_submsg", "submessages"), ("rtps_message", "facts, keys, messages")]),
     ("threads", [("dur_turn", "one call at a time"), ("turn_uses", "uses of a turn, tests")]),
