@@ -4,7 +4,8 @@ import os
 
 LAYERS = [
     ("program", [("durability", "command line, listing"), ("dur_rerun", "statuses, show")]),
-    ("histories", [("dur_store", "history of a topic"), ("dur_view", "definitions and laws"), ("rel_writer", "sessions, late readers")]),
+    ("service", [("dur_hub", "one admitted history"), ("rel_writer", "sessions, late readers"), ("dur_record", "texts of a journal")]),
+    ("histories", [("dur_topic", "history of one topic"), ("dur_store", "history of all topics"), ("dur_view", "definitions and laws")]),
     ("streams", [("dur_capture", "records of a capture"), ("dur_qos", "plan text"), ("rel_reader", "known numbers")]),
     ("wire", [("rtps_params", "parameter lists"), ("rtps_submsg", "submessages"), ("rtps_message", "facts, keys, messages")]),
     ("threads", [("dur_turn", "one call at a time"), ("turn_uses", "uses of a turn, tests")]),
@@ -37,7 +38,7 @@ def layer(row, name, crates, at):
 def way(at):
     """The way of a datagram: outside, capture, wire, and from there by way of the store, or to the printer of `show`."""
     outside, capture, wire, store, program, printer = (
-        at[name] for name in ("dur_outside", "dur_capture", "rtps_params", "dur_store", "durability", "dur_rerun")
+        at[name] for name in ("dur_outside", "dur_capture", "rtps_params", "dur_topic", "durability", "dur_rerun")
     )
     middle, centre, top = TALL // 2, LEFT + BOX // 2, wire[1] - 8
     yield f"M{LEFT} {outside[1] + middle} C{LEFT - 26} {outside[1] + middle} {LEFT - 26} {capture[1] + middle} {LEFT} {capture[1] + middle}"
@@ -45,7 +46,7 @@ def way(at):
     for column, (x, y) in ((1, store), (2, printer)):
         gap = LEFT + column * (BOX + GAP) - GAP // 2
         yield f"M{gap} {top} L{gap} {y + middle} L{x + BOX} {y + middle}"
-    yield f"M{centre} {store[1]} L{centre} {program[1] + TALL}"
+    yield f"M{LEFT} {store[1] + middle} C{LEFT - 26} {store[1] + middle} {LEFT - 26} {program[1] + middle} {LEFT} {program[1] + middle}"
 
 
 def drawing():
