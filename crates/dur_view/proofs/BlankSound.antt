@@ -52,8 +52,11 @@ others (s ∷ seen) w none =
     let here = other-at (bytes_eq w.guid s.guid) (has_writer w.guid seen) none in
     (ap not (turned s.guid w.guid (bytes_eq s.guid w.guid) refl here.0), others seen w here.1)
 
+pub lines-differ : (ws : List WriterLine) → EachIsNew (λ seen w. has_writer w.guid seen ≡ false) [] ws → each_two (λ a b. not (bytes_eq a.guid b.guid)) ws ≡ true
+lines-differ ws new = two-new (λ a b. differ (first_line a) (first_line b)) (λ seen w. has_writer w.guid seen ≡ false) others [] ws new refl
+
 all-differ : (ws : List WriterLine) → EachIsNew (λ seen w. has_writer w.guid seen ≡ false) [] ws → each_two differ (map first_line ws) ≡ true
-all-differ ws new = two-map differ first_line ws ∙ two-new (λ a b. differ (first_line a) (first_line b)) (λ seen w. has_writer w.guid seen ≡ false) others [] ws new refl
+all-differ ws new = two-map differ first_line ws ∙ lines-differ ws new
 
 sound-lines : (plan : Plan) → GoodPlan plan → PassesTests record { last = 0; topics = plan.topics; writers = map first_line plan.writers; instances = []; kept = [] }
 sound-lines plan good =

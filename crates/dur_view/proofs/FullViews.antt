@@ -29,7 +29,7 @@ use Rattle.dur_view.proofs.LineLaws.{map-append}
 use Rattle.dur_view.proofs.Base.{at_or_below}
 use Rattle.dur_view.proofs.TestsDecide.{sound-passes}
 
-filled-start : (plan : Plan) (h : History) → start (filled plan h) ≡ full plan (start h)
+pub filled-start : (plan : Plan) (h : History) → start (filled plan h) ≡ full plan (start h)
 filled-start plan (Start v) = refl
 filled-start plan (h ▸ e) = filled-start plan h
 
@@ -38,7 +38,7 @@ line-stays-at : (b : Bool) (line : KeptWriter) (o u : Option KeptWriter) → (is
 line-stays-at true line o u rest some = refl
 line-stays-at false line o u rest some = rest some
 
-line-stays : (ws more : List KeptWriter) (w : Guid) → is_some (writer_line ws w) ≡ true → writer_line (ws ++ more) w ≡ writer_line ws w
+pub line-stays : (ws more : List KeptWriter) (w : Guid) → is_some (writer_line ws w) ≡ true → writer_line (ws ++ more) w ≡ writer_line ws w
 line-stays [] more w some = absurd (cc)
 line-stays (line ∷ ws) more w some = line-stays-at (is_same line.guid w) line (writer_line ws w) (writer_line (ws ++ more) w) (line-stays ws more w) some
 
@@ -51,15 +51,15 @@ place-stays [] more w some = absurd (cc)
 place-stays (line ∷ ws) more w some = place-stays-at (is_same line.guid w) line (writer_line ws w) _ _ (place-stays ws more w) some
 
 -- what stands in the start has the same number and open set
-next-stays : (plan : Plan) (h : History) (w : Guid) → stands (start h) w ≡ true → next (filled plan h) w ≡ next h w
+pub next-stays : (plan : Plan) (h : History) (w : Guid) → stands (start h) w ≡ true → next (filled plan h) w ≡ next h w
 next-stays plan (Start v) w there = ap (λ o. unwrap_or (option_map (λ line. line.next) o) 1) (line-stays v.writers (more_writers plan (v.topics ++ more_topics plan v.topics) v) w there)
 next-stays plan (h ▸ e) w there = ap (λ n. next_by e w n) (next-stays plan h w there)
 
-held-stays : (plan : Plan) (h : History) (w : Guid) → stands (start h) w ≡ true → held (filled plan h) w ≡ held h w
+pub held-stays : (plan : Plan) (h : History) (w : Guid) → stands (start h) w ≡ true → held (filled plan h) w ≡ held h w
 held-stays plan (Start v) w there = ap (λ (o : Option KeptWriter). unwrap_or (option_map (λ line. line.held) o) []) (line-stays v.writers (more_writers plan (v.topics ++ more_topics plan v.topics) v) w there)
 held-stays plan (h ▸ e) w there = ap (λ (l : List Held). held_by e w l) (held-stays plan h w there)
 
-topic-stays : (plan : Plan) (h : History) (w : Guid) → stands (start h) w ≡ true → topic_of (start (filled plan h)) w ≡ topic_of (start h) w
+pub topic-stays : (plan : Plan) (h : History) (w : Guid) → stands (start h) w ≡ true → topic_of (start (filled plan h)) w ≡ topic_of (start h) w
 topic-stays plan h w there =
     ap (λ v. topic_of v w) (filled-start plan h)
     ∙ ap (λ o. unwrap_or (option_map (λ line. line.topic) o) 0) (line-stays (start h).writers (more_writers plan ((start h).topics ++ more_topics plan (start h).topics) (start h)) w there)

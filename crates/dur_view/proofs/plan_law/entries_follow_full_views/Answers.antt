@@ -1,0 +1,5 @@
+use Rattle.dur_view.proofs.FullFollows.{follow-full}
+use Rattle.dur_view.proofs.plan_law.entries_follow_full_views.Goals as goal
+
+pub returns : goal.returns
+returns c = follow-full
