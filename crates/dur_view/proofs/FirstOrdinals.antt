@@ -64,11 +64,14 @@ pair-at a b c d p q r = λ same.
     (subst (λ (z : Kept). z.ordinal < b.ordinal) p (r (ap (λ (z : Kept). z.instance) p ∙ same ∙ ap (λ (z : Kept). z.instance) (sym q))))
 
 -- each change is of an instance that has one of ordinal 1,
+pub all-first : (kept : List Kept) → BeginAtOne kept → All (λ c. Any (FirstOf c) kept) kept
+all-first kept begin = λ k d lt. first-at kept (suc k) begin k (slice_index_or kept k d) (omega arith) (slice_get-get_or kept k d lt)
+
 pub each-first : (kept : List Kept) → BeginAtOne kept → list_all (λ c. list_any (λ b. (b.instance == c.instance) && (b.ordinal == 1)) kept) kept ≡ true
 each-first kept begin =
     (decides-all (λ c. list_any (λ b. (b.instance == c.instance) && (b.ordinal == 1)) kept) (λ c. Any (FirstOf c) kept)
     (λ c. decides-any (λ b. (b.instance == c.instance) && (b.ordinal == 1)) (FirstOf c) (λ b. Decides-and (b.instance == c.instance) (b.ordinal == 1) (Decides-eqb b.instance c.instance) (Decides-eqb b.ordinal 1)) kept) kept).1
-    (λ k d lt. first-at kept (suc k) begin k (slice_index_or kept k d) (omega arith) (slice_get-get_or kept k d lt))
+    (all-first kept begin)
 
 -- and no ordinal is 0
 pub from-one : (kept : List Kept) → BeginAtOne kept → AllPairs Rise kept → All (λ c. 1 ≤ c.ordinal) kept
@@ -103,13 +106,17 @@ settle kept k c at none rise low one (inr (inr after)) =
     let less = pair-at (get_or kept k one.1) (get_or kept one.0 one.1) c one.1 (get_or_from_slice_get kept k c one.1 at) one.3 (rise k one.0 one.1 after one.2) (sym one.4.0) in
     let is = one.4.1 in absurd (omega arith)
 
-pub begin-at-one : (kept : List Kept) → list_all (λ c. list_any (λ b. (b.instance == c.instance) && (b.ordinal == 1)) kept) kept ≡ true → AllPairs Rise kept → All (λ c. 1 ≤ c.ordinal) kept → BeginAtOne kept
-begin-at-one kept test rise low = λ k c at none.
+pub begin-by-first : (kept : List Kept) → All (λ c. Any (FirstOf c) kept) kept → AllPairs Rise kept → All (λ c. 1 ≤ c.ordinal) kept → BeginAtOne kept
+begin-by-first kept each rise low = λ k c at none.
     let inside = slice_get_within kept k c at in
     let is = get_or_from_slice_get kept k c c at in
-    let each =
-    (decides-all (λ c. list_any (λ b. (b.instance == c.instance) && (b.ordinal == 1)) kept) (λ c. Any (FirstOf c) kept)
-    (λ c. decides-any (λ b. (b.instance == c.instance) && (b.ordinal == 1)) (FirstOf c) (λ b. Decides-and (b.instance == c.instance) (b.ordinal == 1) (Decides-eqb b.instance c.instance) (Decides-eqb b.ordinal 1)) kept) kept).0 test in
     let one : Any (FirstOf c) kept = subst (λ (z : Kept). Any (FirstOf z) kept) is (each k c inside) in
     let least : 1 ≤ c.ordinal = subst (λ (z : Kept). 1 ≤ z.ordinal) is (low k c inside) in
     settle kept k c at none rise least one (cases_order one.0 k)
+
+pub begin-at-one : (kept : List Kept) → list_all (λ c. list_any (λ b. (b.instance == c.instance) && (b.ordinal == 1)) kept) kept ≡ true → AllPairs Rise kept → All (λ c. 1 ≤ c.ordinal) kept → BeginAtOne kept
+begin-at-one kept test rise low =
+    begin-by-first kept
+    ((decides-all (λ c. list_any (λ b. (b.instance == c.instance) && (b.ordinal == 1)) kept) (λ c. Any (FirstOf c) kept)
+    (λ c. decides-any (λ b. (b.instance == c.instance) && (b.ordinal == 1)) (FirstOf c) (λ b. Decides-and (b.instance == c.instance) (b.ordinal == 1) (Decides-eqb b.instance c.instance) (Decides-eqb b.ordinal 1)) kept) kept).0 test)
+    rise low

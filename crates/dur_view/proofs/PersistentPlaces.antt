@@ -43,7 +43,7 @@ pub among-end : {X : Type 0} (test : X → Bool) (xs : List X) → place_among t
 among-end test xs = ap (λ l. length (filter test l)) (take_all (length xs) xs (omega arith))
 
 -- of places that pass, the order stays
-among-later : {X : Type 0} (test : X → Bool) (xs : List X) (i j : ℕ) → passes_at test xs i ≡ true → i < j → place_among test xs i < place_among test xs j
+pub among-later : {X : Type 0} (test : X → Bool) (xs : List X) (i j : ℕ) → passes_at test xs i ≡ true → i < j → place_among test xs i < place_among test xs j
 among-later test [] i j is lt = absurd (cc)
 among-later test (x ∷ xs) i zero is lt = absurd (omega arith)
 among-later test (x ∷ xs) zero (suc j) is lt =
@@ -60,7 +60,7 @@ one-at i j a b true after lt gt less more is = let l = less (ltb-true i j lt) in
 one-at i j a b false true lt gt less more is = let l = more (ltb-true j i gt) in absurd (omega arith)
 one-at i j a b false false lt gt less more is = let l = ltb-false i j lt in let g = ltb-false j i gt in omega arith
 
-among-one : {X : Type 0} (test : X → Bool) (xs : List X) (i j : ℕ) → passes_at test xs i ≡ true → passes_at test xs j ≡ true → place_among test xs i ≡ place_among test xs j → i ≡ j
+pub among-one : {X : Type 0} (test : X → Bool) (xs : List X) (i j : ℕ) → passes_at test xs i ≡ true → passes_at test xs j ≡ true → place_among test xs i ≡ place_among test xs j → i ≡ j
 among-one test xs i j pi pj is =
     one-at i j (place_among test xs i) (place_among test xs j) (nat_lt i j) (nat_lt j i) refl refl (among-later test xs i j pi) (among-later test xs j i pj) is
 
