@@ -38,9 +38,9 @@ good-full : (plan : Plan) (h : History) (e : Entry) → IsSound (start h) → st
 good-full plan h (Took m w n s) sound known good = (
   good.0,
   ap (λ (v : View). is_key_of v.topics (topic_of (start (filled plan h)) w) s.key) (filled-start plan h)
-  ∙ ap (λ t. is_key_of (full plan (start h)).topics t s.key) (topic-stays plan h w known)
-  ∙ key-stays (start h).topics (more_topics plan (start h).topics) (topic_of (start h) w) s.key (topic-under (start h) w sound known)
-  ∙ good.1,
+      ∙ ap (λ t. is_key_of (full plan (start h)).topics t s.key) (topic-stays plan h w known)
+      ∙ key-stays (start h).topics (more_topics plan (start h).topics) (topic_of (start h) w) s.key (topic-under (start h) w sound known)
+      ∙ good.1,
 )
 good-full plan h (Skip m w from to) sound known good = tt
 good-full plan h (Lost m w) sound known good = tt

@@ -120,17 +120,17 @@ full-sound plan v good s few_topics few_writers =
       topics = full-topics plan v.topics good s.topics few_topics;
       writer_count = few_writers;
       writer_topics = All-append (λ w. w.topic < length topics) v.writers new (All-weaker (λ w. w.topic < length v.topics) (λ w. w.topic < length topics) (λ w lt. omega arith) v.writers s.writer_topics)
-      (All-map (λ w. w.topic < length topics) (new_writer plan topics) lines
-      (All-weaker (IsGoodWriter (length plan.topics)) (λ w. topic_place plan topics w.topic < length topics) (λ w is. topic-under topics (slice_get plan.topics w.topic) (some-topic plan v.topics (let lt = is.0 in omega arith))) lines declared));
+          (All-map (λ w. w.topic < length topics) (new_writer plan topics) lines
+          (All-weaker (IsGoodWriter (length plan.topics)) (λ w. topic_place plan topics w.topic < length topics) (λ w is. topic-under topics (slice_get plan.topics w.topic) (some-topic plan v.topics (let lt = is.0 in omega arith))) lines declared));
       guids = pairs-append (λ a b. a.guid ≢ b.guid) v.writers new s.guids (pairs-map (λ a b. a.guid ≢ b.guid) (new_writer plan topics) lines (AllPairs-filter (λ a b. a.guid ≢ b.guid) test plan.writers guids))
-      (λ k d lt. All-map (λ b. (slice_index_or v.writers k d).guid ≢ b.guid) (new_writer plan topics) lines (λ j e below. apart j e below k d lt));
+          (λ k d lt. All-map (λ b. (slice_index_or v.writers k d).guid ≢ b.guid) (new_writer plan topics) lines (λ j e below. apart j e below k d lt));
       held_numbers = All-append (λ w. FollowEachOther w.next w.held) v.writers new s.held_numbers (All-map (λ w. FollowEachOther w.next w.held) (new_writer plan topics) lines (always (λ x. FollowEachOther 1 []) lines (λ x k d lt. absurd (omega arith))));
       held_marks = All-append (λ w. All (λ x. x.sample.set ≡ Of (first_open w)) w.held) v.writers new s.held_marks (All-map (λ w. All (λ x. x.sample.set ≡ Of (first_open w)) w.held) (new_writer plan topics) lines (always (λ x. All (λ (y : Held). y.sample.set ≡ Of 1) []) lines (λ x. All-nil (λ (y : Held). y.sample.set ≡ Of 1))));
       held_early = All-append (λ w. All (λ x. x.moment ≤ v.last) w.held) v.writers new s.held_early (All-map (λ w. All (λ x. x.moment ≤ v.last) w.held) (new_writer plan topics) lines (always (λ x. All (λ (y : Held). y.moment ≤ v.last) []) lines (λ x. All-nil (λ (y : Held). y.moment ≤ v.last))));
       held_samples = All-append (λ w. All (λ x. IsGood x.sample) w.held) v.writers new s.held_samples (All-map (λ w. All (λ x. IsGood x.sample) w.held) (new_writer plan topics) lines (always (λ x. All (λ (y : Held). IsGood y.sample) []) lines (λ x. All-nil (λ (y : Held). IsGood y.sample))));
       held_keys = All-append (λ w. All (λ x. is_key_of topics w.topic x.sample.key ≡ true) w.held) v.writers new
-      (λ k d lt j e below. key-stays v.topics (more_topics plan v.topics) (slice_index_or v.writers k d).topic (slice_index_or (slice_index_or v.writers k d).held j e).sample.key (s.writer_topics k d lt) ∙ s.held_keys k d lt j e below)
-      (All-map (λ w. All (λ x. is_key_of topics w.topic x.sample.key ≡ true) w.held) (new_writer plan topics) lines (λ k d lt. All-nil (λ (y : Held). is_key_of topics (new_writer plan topics (slice_index_or lines k d)).topic y.sample.key ≡ true)));
+          (λ k d lt j e below. key-stays v.topics (more_topics plan v.topics) (slice_index_or v.writers k d).topic (slice_index_or (slice_index_or v.writers k d).held j e).sample.key (s.writer_topics k d lt) ∙ s.held_keys k d lt j e below)
+          (All-map (λ w. All (λ x. is_key_of topics w.topic x.sample.key ≡ true) w.held) (new_writer plan topics) lines (λ k d lt. All-nil (λ (y : Held). is_key_of topics (new_writer plan topics (slice_index_or lines k d)).topic y.sample.key ≡ true)));
       instance_topics = All-weaker (λ i. i.topic < length v.topics) (λ i. i.topic < length topics) (λ i lt. omega arith) v.instances s.instance_topics;
       instance_keys = λ k d lt. key-stays v.topics (more_topics plan v.topics) (slice_index_or v.instances k d).topic (slice_index_or v.instances k d).key (s.instance_topics k d lt) ∙ s.instance_keys k d lt;
       instance_order = s.instance_order;

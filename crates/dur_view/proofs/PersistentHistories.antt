@@ -29,9 +29,9 @@ good-persistent : (h : History) (e : Entry) → in_persistent (start h) (writer_
 good-persistent h (Took m w n s) stay good = (
   good.0,
   ap (λ (v : View). is_key_of v.topics (topic_of v w) s.key) (start-persistent h)
-  ∙ ap (λ t. is_key_of (persistent_view (start h)).topics t s.key) (topic-persistent (start h) w stay)
-  ∙ key-among (start h).topics (topic_of (start h) w) s.key stay
-  ∙ good.1,
+      ∙ ap (λ t. is_key_of (persistent_view (start h)).topics t s.key) (topic-persistent (start h) w stay)
+      ∙ key-among (start h).topics (topic_of (start h) w) s.key stay
+      ∙ good.1,
 )
 good-persistent h (Skip m w from to) stay good = tt
 good-persistent h (Lost m w) stay good = tt

@@ -153,7 +153,7 @@ persistent-sound v s =
       held_early = all-staying (λ w. All (λ x. x.moment ≤ v.last) w.held) (λ w. All (λ x. x.moment ≤ v.last) w.held) (writer_among v) (writer_stays v) v.writers (λ w stay early. early) s.held_early;
       held_samples = all-staying (λ w. All (λ x. IsGood x.sample) w.held) (λ w. All (λ x. IsGood x.sample) w.held) (writer_among v) (writer_stays v) v.writers (λ w stay good. good) s.held_samples;
       held_keys = all-staying (λ w. All (λ x. is_key_of u.topics w.topic x.sample.key ≡ true) w.held) (λ w. All (λ x. is_key_of v.topics w.topic x.sample.key ≡ true) w.held) (writer_among v) (writer_stays v) v.writers
-      (λ w stay keys k d lt. key-among v.topics w.topic (slice_index_or w.held k d).sample.key stay ∙ keys k d lt) s.held_keys;
+          (λ w stay keys k d lt. key-among v.topics w.topic (slice_index_or w.held k d).sample.key stay ∙ keys k d lt) s.held_keys;
       instance_topics = all-staying (λ i. i.topic < length u.topics) (λ i. i.topic < length v.topics) (instance_among v) (instance_stays v) v.instances (λ i stay lt. among-under is_persistent v.topics i.topic stay) s.instance_topics;
       instance_keys = all-staying (λ i. is_key_of u.topics i.topic i.key ≡ true) (λ i. is_key_of v.topics i.topic i.key ≡ true) (instance_among v) (instance_stays v) v.instances (λ i stay key. key-among v.topics i.topic i.key stay ∙ key) s.instance_keys;
       instance_order = pairs-staying StandsBefore StandsBefore (instance_among v) (instance_stays v) v.instances (λ a b sa sb order. before-among v a b sa sb order) s.instance_order;
@@ -162,18 +162,18 @@ persistent-sound v s =
       quiet = all-staying (λ i. IsSome i.quiet ↔ ((i.disposed ≡ true) × (i.registered ≡ []))) (λ i. IsSome i.quiet ↔ ((i.disposed ≡ true) × (i.registered ≡ []))) (instance_among v) (instance_stays v) v.instances (λ i stay iff. quiet-among v i iff) s.quiet;
       quiet_early = all-staying (λ i. IfSome i.quiet (λ m. m ≤ v.last)) (λ i. IfSome i.quiet (λ m. m ≤ v.last)) (instance_among v) (instance_stays v) v.instances (λ i stay early. early) s.quiet_early;
       depths = all-staying (λ i. IfSome (depth_at u i.topic) (λ d. i.changes ≤ d)) (λ i. IfSome (depth_at v i.topic) (λ d. i.changes ≤ d)) (instance_among v) (instance_stays v) v.instances
-      (λ i stay few. subst (λ (o : Option ℕ). IfSome o (λ d. i.changes ≤ d)) (sym (depth-among v i.topic stay)) few) s.depths;
+          (λ i stay few. subst (λ (o : Option ℕ). IfSome o (λ d. i.changes ≤ d)) (sym (depth-among v i.topic stay)) few) s.depths;
       kept_order = pairs-staying (λ a b. topic_at u a ≤ topic_at u b) (λ a b. topic_at v a ≤ topic_at v b) (kept_among v) (kept_stays v) v.kept (λ a b sa sb le. kept-order v a b sa sb le) s.kept_order;
       kept_keys = all-staying (λ c. InstanceOf u c (λ i. i.key ≡ c.sample.key)) (λ c. InstanceOf v c (λ i. i.key ≡ c.sample.key)) (kept_among v) (kept_stays v) v.kept
-      (λ c stay is. instance-says v c (λ i. i.key ≡ c.sample.key) (λ i. i.key ≡ c.sample.key) stay (λ i key. key) is) s.kept_keys;
+          (λ c stay is. instance-says v c (λ i. i.key ≡ c.sample.key) (λ i. i.key ≡ c.sample.key) stay (λ i key. key) is) s.kept_keys;
       kept_changes = all-staying (λ c. is_change c.sample.act ≡ true) (λ c. is_change c.sample.act ≡ true) (kept_among v) (kept_stays v) v.kept (λ c stay is. is) s.kept_changes;
       kept_samples = all-staying (λ c. IsGood c.sample) (λ c. IsGood c.sample) (kept_among v) (kept_stays v) v.kept (λ c stay is. is) s.kept_samples;
       kept_writers = all-staying (λ c. Any (Wrote u c) u.writers) (λ c. Any (Wrote v c) v.writers) (kept_among v) (kept_stays v) v.kept
-      (λ c stay one. any-staying (Wrote u (kept_among v c)) (Wrote v c) (writer_among v) (writer_stays v) v.writers (wrote-among v c stay) one) s.kept_writers;
+          (λ c stay one. any-staying (Wrote u (kept_among v c)) (Wrote v c) (writer_among v) (writer_stays v) v.writers (wrote-among v c stay) one) s.kept_writers;
       kept_early = all-staying (λ c. IfSome c.arrived (λ m. m ≤ v.last)) (λ c. IfSome c.arrived (λ m. m ≤ v.last)) (kept_among v) (kept_stays v) v.kept (λ c stay early. early) s.kept_early;
       numbers_rise = pairs-staying (λ a b. a.writer ≡ b.writer → a.number < b.number) (λ a b. a.writer ≡ b.writer → a.number < b.number) (kept_among v) (kept_stays v) v.kept (λ a b sa sb rise. rise) s.numbers_rise;
       ordinals_begin = begin-by-first u.kept first rise least;
       ordinals_rise = rise;
       ordinals_within = all-staying (λ c. InstanceOf u c (λ i. c.ordinal ≤ i.changes)) (λ c. InstanceOf v c (λ i. c.ordinal ≤ i.changes)) (kept_among v) (kept_stays v) v.kept
-      (λ c stay is. instance-says v c (λ i. c.ordinal ≤ i.changes) (λ i. c.ordinal ≤ i.changes) stay (λ i le. le) is) s.ordinals_within;
+          (λ c stay is. instance-says v c (λ i. c.ordinal ≤ i.changes) (λ i. c.ordinal ≤ i.changes) stay (λ i le. le) is) s.ordinals_within;
     }

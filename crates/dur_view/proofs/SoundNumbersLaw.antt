@@ -6,7 +6,7 @@ use Rattle.dur_view.specs.View.{view}
 use Rattle.dur_view.proofs.SoundRules.{SoundNumbers}
 use Rattle.dur_view.proofs.RegisteredViews.{quiet-early, registered-places, registered-here}
 use Rattle.dur_view.proofs.SoundNumbersKept.{numbers-rise, numbers-below}
-use Rattle.dur_view.proofs.Arrivals.{arrived-early}
+use Rattle.dur_view.proofs.EarlyArrivals.{arrived-early}
 
 -- The law.
 pub sound-numbers : (h : History) (m : ℕ) → IsHistory h → moment h ≤ m → SoundNumbers (view h m)

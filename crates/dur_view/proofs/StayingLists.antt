@@ -23,17 +23,17 @@ pairs-staying R S f t xs step pairs =
     let first : i < length (filter t xs) = omega arith in
     step (slice_index_or (filter t xs) i d) (slice_index_or (filter t xs) j d) (filter_passes t xs i d first) (filter_passes t xs j d below) (AllPairs-filter S t xs pairs i j d lt below))
 
-any-split : {A : Type 0} (Q : A → Type 0) (x : A) (xs : List A) → Any Q (x ∷ xs) → Q x ⊎ Any Q xs
+pub any-split : {A : Type 0} (Q : A → Type 0) (x : A) (xs : List A) → Any Q (x ∷ xs) → Q x ⊎ Any Q xs
 any-split {A = A} Q x xs one = by one.0 one.1 one.2 one.3 one.4
   where
     by : (k : ℕ) (y : A) → k < length (x ∷ xs) → slice_index_or (x ∷ xs) k y ≡ y → Q y → Q x ⊎ Any Q xs
     by zero y lt is q = inl (subst Q (sym is) q)
     by (suc k) y lt is q = inr (k, y, omega arith, is, q)
 
-any-here : {A : Type 0} (P : A → Type 0) (x : A) (xs : List A) → P x → Any P (x ∷ xs)
+pub any-here : {A : Type 0} (P : A → Type 0) (x : A) (xs : List A) → P x → Any P (x ∷ xs)
 any-here P x xs p = (zero, x, omega arith, refl, p)
 
-any-there : {A : Type 0} (P : A → Type 0) (x : A) (xs : List A) → Any P xs → Any P (x ∷ xs)
+pub any-there : {A : Type 0} (P : A → Type 0) (x : A) (xs : List A) → Any P xs → Any P (x ∷ xs)
 any-there P x xs one = (suc one.0, one.1, (let lt = one.2 in omega arith), one.3, one.4)
 
 any-at : {A B : Type 0} (P : B → Type 0) (f : A → B) (x : A) (ys : List A) (b : Bool) → (b ≡ true) × P (f x) → Any P (map f (cond b (x ∷ ys) ys))

@@ -1,5 +1,6 @@
+use Rattle.dur_view.proofs.CountedTopics.{few-topics}
 use Rattle.dur_view.proofs.FullSound.{full-sound}
 use Rattle.dur_view.proofs.plan_law.full_views_are_sound.Goals as goal
 
 pub returns : goal.returns
-returns c = full-sound
+returns c = record { count = few-topics; sound = full-sound }
