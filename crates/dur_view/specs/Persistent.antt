@@ -1,5 +1,5 @@
 -- The part of a plan, of a view and of a history that outlives the process: the topics of kind PERSISTENT (DDS 2.2.3.4).
-use Rattle.std.specs.Prelude.{ℕ, Bool, true, false, if◌then◌else◌, List, map, filter, take, length, option_map, unwrap_or, slice_get}
+use Rattle.std.specs.Prelude.{◌≡◌, All, Contains, is_some, ℕ, Bool, true, false, if◌then◌else◌, List, map, filter, take, length, option_map, unwrap_or, slice_get}
 use Rattle.dur_base.specs.declared.kinds.Durability.{Durability}
 use Rattle.dur_base.specs.declared.kinds.Durability.TheVariants.{Persistent}
 use Rattle.dur_qos.specs.declared.plan.Plan.{Plan}
@@ -10,7 +10,8 @@ use Rattle.dur_view.specs.declared.data.KeptWriter.{KeptWriter}
 use Rattle.dur_view.specs.declared.data.Instance.{Instance}
 use Rattle.dur_view.specs.declared.data.Kept.{Kept}
 use Rattle.dur_view.specs.declared.data.View.{View}
-use Rattle.dur_view.specs.Words.{topic_of}
+use Rattle.dur_qos.specs.Plan.{place_of}
+use Rattle.dur_view.specs.Words.{topic_of, stands}
 use Rattle.dur_view.specs.History.{History, Start, ◌▸◌, start, writer_of}
 
 abbrev pub is_persistent_kind : Durability → Bool
@@ -80,3 +81,12 @@ persistent_view v =
 abbrev pub persistent : History → History
 persistent (Start v) = Start (persistent_view v)
 persistent (h ▸ e) = if passes_at is_persistent (start h).topics (topic_of (start h) (writer_of e)) then persistent h ▸ e else persistent h
+
+-- A start that has all of the persistent part of the plan, and nothing else.
+pub record HasPersistentPart (plan : Plan) (v : View) : Type 0 where
+  -- its topics are persistent ones of the plan
+  pub persistent : All (λ t. is_persistent t ≡ true) v.topics
+  pub declared : All (Contains plan.topics) v.topics
+  -- and it lacks no persistent topic and no writer of one
+  pub topics : All (λ t. is_persistent t ≡ true → is_some (place_of t.name v.topics) ≡ true) plan.topics
+  pub writers : All (λ w. passes_at is_persistent plan.topics w.topic ≡ true → stands v w.guid ≡ true) plan.writers

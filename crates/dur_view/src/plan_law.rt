@@ -1,13 +1,13 @@
 //! Laws on plans and the views that they begin.
 
-ghost use Rattle.std.specs.Prelude.{◌≤◌, All, Contains, List, length};
+ghost use Rattle.std.specs.Prelude.{◌≡◌, ◌≤◌, All, Contains, List, length};
 ghost use Rattle.dur_base.specs.declared.entry.Entry.{Entry};
 ghost use Rattle.dur_view.specs.History.{Start, AllFollow};
 ghost use Rattle.dur_qos.specs.declared.plan.Plan.{Plan};
 ghost use Rattle.dur_qos.specs.Good.{GoodPlan};
 ghost use Rattle.dur_view.specs.IsSound.{IsSound, GoodTopics};
 ghost use Rattle.dur_view.specs.Full.{blank, full};
-ghost use Rattle.dur_view.specs.Persistent.{persistent_plan};
+ghost use Rattle.dur_view.specs.Persistent.{persistent_plan, persistent_view, HasPersistentPart};
 ghost use Rattle.dur_view.specs.declared.data.View.{View};
 
 /// The topics of a good plan are those that a sound view may have.
@@ -35,4 +35,9 @@ pub fn entries_follow_full_views()
 /// The persistent part of a good plan is good.
 pub fn persistent_plans_are_good()
     ensures { (plan : Plan) → GoodPlan plan → GoodPlan (persistent_plan plan) }
+{}
+
+/// The persistent part of the full view of a start that has all of the plan's persistent part, and nothing else, is that start.
+pub fn persistent_parts_stay_in_full_views()
+    ensures { (plan : Plan) (v : View) → GoodPlan plan → IsSound v → HasPersistentPart plan v → persistent_view (full plan v) ≡ v }
 {}

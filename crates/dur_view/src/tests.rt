@@ -7,7 +7,7 @@ ghost use Rattle.dur_view.specs.Identities.{Key as Octets};
 ghost use Rattle.dur_view.specs.Words.{stands, topic_of, is_key_of};
 ghost use Rattle.dur_view.specs.MayAdd.{MayAdd};
 
-use crate::{View, WholeHistory};
+use crate::{Limit, Refuse, View, WholeHistory};
 use bytes::Bytes;
 use dur_base::{
     Act, Entry, Form, Guid, Key, Number, OutOfMemory, Payload, Sample, SetMark, Shape, Ticks,
@@ -227,6 +227,41 @@ fn the_view_has_open_sets_quiet_instances_and_new_ordinals(rt: HostRuntime) {
             assert!(rt; b.instance == 1 && b.ordinal == 1 && b.number.get() == 3);
             assert!(rt; c.instance == 0 && c.ordinal == 2 && c.number.get() == 4);
             assert!(rt; d.instance == 1 && d.ordinal == 2 && d.number.get() == 5);
+        }
+        _ => assert!(rt; false),
+    }
+}
+
+const OF_TWO_TOPICS: &[u8] =
+    b"prefix 0102030405060708\ntopic T transient hash 1 - - - - 0\ntopic P persistent hash 1 - - - - 0\nwriter a1a1a1a1a1a1a1a1a1a1a1a100000102 P -\nend\n";
+
+#[test]
+fn a_persistent_part_is_filled_by_the_plan(rt: HostRuntime) {
+    let plan = read(rt.alloc(), OF_TWO_TOPICS).ok().expect(&rt, "memory");
+    let view = View::blank(&plan).expect(&rt, "memory");
+    let part = view.persistent().expect(&rt, "memory");
+    assert!(rt; part.topics.len() == 1 && part.writers.len() == 1);
+    let full = part.full(&plan).expect(&rt, "memory");
+    match full.writers.as_slice() {
+        [line] => assert!(rt; full.topics.len() == 2 && line.guid == W && line.topic == 0),
+        _ => assert!(rt; false),
+    }
+}
+
+const OF_ONE_SAMPLE: &[u8] =
+    b"prefix 0102030405060708\ntopic T transient hash all 1 - - - 0\nwriter a1a1a1a1a1a1a1a1a1a1a1a100000102 T -\nend\n";
+
+#[test]
+fn a_sample_above_the_limit_is_handed_back(rt: HostRuntime) {
+    let plan = read(rt.alloc(), OF_ONE_SAMPLE).ok().expect(&rt, "memory");
+    let view = View::blank(&plan).expect(&rt, "memory");
+    let mut history = WholeHistory::of_view(rt.alloc(), view);
+    let first = took(rt.alloc(), Number::at(1), SetMark::NoSet).expect(&rt, "memory");
+    assert!(rt; history.admit(rt.alloc(), first).is_ok());
+    let second = took(rt.alloc(), Number::at(2), SetMark::NoSet).expect(&rt, "memory");
+    match history.admit(rt.alloc(), second) {
+        Err((refuse, Entry::Took { number, .. })) => {
+            assert!(rt; refuse == Refuse::Limit(Limit::Samples) && number.get() == 2);
         }
         _ => assert!(rt; false),
     }
