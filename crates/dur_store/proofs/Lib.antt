@@ -1,1 +1,2 @@
 mod ViewsKept
+pub mod Nothing

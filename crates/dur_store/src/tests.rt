@@ -1,15 +1,15 @@
 //! Small histories through the store: what is admitted, refused and entitled.
 
-ghost use Rattle.std.specs.Prelude.{IfOk, IfSome, ◌<◌, ◌≤◌, ◌+◌, ◌^◌, ◌-◌, length};
+ghost use Rattle.std.specs.Prelude.{IfOk, IfSome, ◌<◌, ◌^◌, ◌-◌};
 ghost use Rattle.dur_qos.specs.Good.{GoodPlan};
-ghost use Rattle.dur_view.specs.History.{History, HasShortNumber, start, moment as last_moment};
-ghost use Rattle.dur_view.specs.IsSound.{IsSound, IsHistory};
+ghost use Rattle.dur_view.specs.History.{Start, HasShortNumber};
+ghost use Rattle.dur_view.specs.Full.{blank};
 ghost use Rattle.dur_store.specs.Keeps.{Keeps};
 
 use crate::{Refuse, Store};
 use bytes::Bytes;
 use dur_base::{
-    Act, Entry, Form, Guid, Key, Number, Payload, Sample, SetMark, TICKS_OF_A_SECOND, Ticks,
+    Act, Entry, Form, Guid, Key, List, Number, Payload, Sample, SetMark, TICKS_OF_A_SECOND, Ticks,
 };
 use dur_qos::{Plan, PlanFault, PlanReader};
 use dur_view::{View, blank_views_are_sound};
@@ -55,6 +55,38 @@ fn over(alloc: Global, plan: &Plan) -> Option<Store>
     match View::blank(plan) {
         Ok(view) => Store::of_view(alloc, plan, view).ok(),
         Err(_) => None,
+    }
+}
+
+// A store that begins with all that the plan declares.
+fn begun(alloc: Global, plan: &Plan) -> Option<Store>
+    requires { GoodPlan plan.now }
+    ensures { IfSome result (λ s. Keeps s (Start (blank plan.now))) }
+{
+    let nothing = View {
+        last: Ticks(0),
+        topics: List::new(alloc),
+        writers: List::new(alloc),
+        instances: List::new(alloc),
+        kept: List::new(alloc),
+    };
+    match Store::of_view(alloc, plan, nothing) {
+        Ok(store) => Some(store),
+        Err(_) => None,
+    }
+}
+
+// The number of topics that outlive the process, and where the plan's topics stand.
+fn outlives(alloc: Global, plan: &Plan) -> Option<(usize, List<u32>)>
+    requires { GoodPlan plan.now }
+{
+    blank_views_are_sound();
+    match begun(alloc, plan) {
+        Some(store) => match (store.view(alloc, Ticks(3)), store.places(plan)) {
+            (Ok(view), Ok(places)) => Some((view.topics.len(), places)),
+            _ => None,
+        },
+        None => None,
     }
 }
 
@@ -222,4 +254,20 @@ fn held_members_and_those_of_a_closer_count(rt: HostRuntime) {
     // Without that number the set is broken, and stays away.
     assert!(rt; admit(alloc, &mut closed, 5, Number::at(3), Step::Skip).is_none());
     assert!(rt; lists(alloc, &closed, 5, &[]));
+}
+
+#[test]
+fn persistent_topics_outlive_the_process(rt: HostRuntime) {
+    let alloc = rt.alloc();
+    let text =
+        b"prefix 0102030405060708\ntopic T transient hash 1 - - - - 0\ntopic P persistent hash 1 - - - - 0\nend\n";
+    match read(alloc, text) {
+        Ok(plan) => match outlives(alloc, &plan) {
+            Some((topics, places)) => assert!(rt;
+                topics == 1 && places.as_slice() == [0, 1].as_slice()
+            ),
+            None => assert!(rt; false),
+        },
+        Err(_) => assert!(rt; false),
+    }
 }
