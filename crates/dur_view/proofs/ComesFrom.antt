@@ -1,8 +1,6 @@
 -- Each change of a history comes from its start or from an entry, and arrived when that says.
-use Rattle.std.proofs.Common.{◌≡◌, ℕ, zero, suc, ◌≤◌, ◌<◌, Bool, true, false, cond, Option, Some, None, List, [], ◌∷◌, ◌++◌, map, length, get_or, refl, sym, ap, ◌∙◌, subst, arith, ◌⊎◌, inl, inr}
-use Rattle.std.specs.Prelude.{◌==◌, find, option_map, unwrap_or, All, Any}
-use Rattle.std.specs.List.{slice_index_or}
-use Rattle.std.proofs.lemmas.Option.{slice_get-get_or}
+use Rattle.std.proofs.Common.{◌≡◌, ℕ, zero, suc, Bool, true, false, cond, Option, Some, List, [], ◌∷◌, ◌++◌, map, length, refl, ap, inl, inr}
+use Rattle.std.specs.Prelude.{◌==◌, option_map, unwrap_or, All, Any}
 use Rattle.std.proofs.lemmas.List.Elements.{All-nil, All-cons, All-append, All-filter, All-head, All-tail, All-weaker}
 use Rattle.dur_base.specs.declared.sample.Sample.{Sample}
 use Rattle.dur_base.specs.declared.sample.SetMark.{SetMark}
@@ -14,9 +12,8 @@ use Rattle.dur_view.specs.declared.data.Held.{Held}
 use Rattle.dur_view.specs.declared.data.Instance.{Instance}
 use Rattle.dur_view.specs.declared.data.Kept.{Kept}
 use Rattle.dur_view.specs.declared.data.KeptWriter.{KeptWriter}
-use Rattle.dur_view.specs.declared.data.View.{View}
 use Rattle.dur_view.specs.Words.{is_same, writer_line, topic_of, place_in}
-use Rattle.dur_view.specs.History.{History, Start, ◌▸◌, start, held, held_by, joined, opens, goes_on, moment_of, writer_of, itself, brings, brings_to, Effect}
+use Rattle.dur_view.specs.History.{History, Start, ◌▸◌, start, held, joined, opens, goes_on, writer_of, itself, brings, brings_to, Effect}
 use Rattle.dur_view.specs.Past.{Made, Past, past, made_of, is_kept_of}
 use Rattle.dur_view.specs.Fates.{made, living}
 use Rattle.dur_view.specs.Extend.{entries_of}
@@ -27,7 +24,7 @@ use Rattle.dur_view.proofs.SameEffects.{is_same-true}
 use Rattle.dur_view.proofs.KeptChanges.{Each-weaken, Each-filter}
 use Rattle.dur_view.proofs.SoundNumbersEvents.{EachEvent, each-append, each-cond}
 use Rattle.dur_view.proofs.SoundNumbersPast.{Makes, made-extend}
-use Rattle.dur_view.proofs.SoundNumbersKept.{kept_as, alive}
+use Rattle.dur_view.proofs.SoundNumbersKept.{alive}
 use Rattle.dur_view.proofs.Deciding.{any-weaker}
 use Rattle.dur_view.proofs.MoreLists.{any-left}
 use Rattle.dur_view.proofs.StayingLists.{any-here, any-there}

@@ -1,5 +1,5 @@
 -- Entries that follow a history follow it with all that a plan declares.
-use Rattle.std.proofs.Common.{◌≡◌, ℕ, ◌≤◌, ◌<◌, Bool, true, false, Option, Some, None, List, [], ◌∷◌, ◌++◌, length, refl, sym, ap, ◌∙◌, subst, arith}
+use Rattle.std.proofs.Common.{◌≡◌, ◌≤◌, ◌<◌, true, Option, Some, None, List, [], ◌∷◌, ◌++◌, length, refl, sym, ap, ◌∙◌, subst}
 use Rattle.std.specs.Prelude.{is_some, nat_lt, option_map, unwrap_or}
 use Rattle.std.specs.List.{list_all}
 use Rattle.std.proofs.lemmas.Bool.{and_parts, ltb-true}
@@ -11,11 +11,10 @@ use Rattle.dur_view.specs.Identities.{Guid}
 use Rattle.dur_view.specs.declared.data.KeptWriter.{KeptWriter}
 use Rattle.dur_view.specs.declared.data.View.{View}
 use Rattle.dur_view.specs.Words.{is_same, writer_line, topic_of, stands, is_key_of}
-use Rattle.dur_view.specs.History.{History, Start, ◌▸◌, ◌+>◌, start, moment, moment_of, writer_of, has_number, HasGoodSample, Follows, AllFollow}
+use Rattle.dur_view.specs.History.{History, Start, ◌▸◌, start, moment, moment_of, writer_of, has_number, HasGoodSample, Follows, AllFollow}
 use Rattle.dur_view.specs.IsSound.{IsSound, IsHistory}
 use Rattle.dur_view.specs.Full.{full, filled, more_topics, more_writers}
 use Rattle.dur_view.proofs.SoundViews.{all-found}
-use Rattle.dur_view.proofs.SameEffects.{start-extend}
 use Rattle.dur_view.proofs.TestsDecide.{sound-passes}
 use Rattle.dur_view.proofs.FullViews.{filled-start, line-stays, next-stays, topic-stays}
 use Rattle.dur_view.proofs.FullSound.{key-stays, full-sound}

@@ -1,7 +1,7 @@
 -- The full view of a sound view is sound.
-use Rattle.std.proofs.Common.{◌≡◌, ℕ, zero, suc, ◌+◌, ◌≤◌, ◌<◌, Bool, true, false, cond, not, ◌||◌, Option, Some, None, List, [], ◌∷◌, ◌++◌, map, length, refl, sym, ap, ◌∙◌, subst, arith, length-append}
-use Rattle.std.specs.Prelude.{◌≢◌, filter, is_some, slice_get, option_map, option_and_then, unwrap_or, All, AllPairs, Any, IfSome}
-use Rattle.std.specs.List.{slice_index_or, AllByRecursion}
+use Rattle.std.proofs.Common.{◌≡◌, ℕ, ◌+◌, ◌≤◌, ◌<◌, Bool, true, false, cond, not, ◌||◌, Option, Some, None, List, [], ◌∷◌, ◌++◌, map, length, refl, sym, ap, ◌∙◌, subst, arith, length-append}
+use Rattle.std.specs.Prelude.{◌≢◌, filter, is_some, slice_get, option_map, option_and_then, unwrap_or, All, IfSome}
+use Rattle.std.specs.List.{slice_index_or}
 use Rattle.std.specs.Str.{bytes_eq}
 use Rattle.std.proofs.lemmas.Bool.{not-true}
 use Rattle.std.proofs.lemmas.List.Elements.{All-nil, All-cons, All-append, All-map, All-filter, All-weaker, All-from_recursion, filter_passes}
@@ -21,8 +21,8 @@ use Rattle.dur_view.specs.declared.data.KeptWriter.{KeptWriter}
 use Rattle.dur_view.specs.declared.data.View.{View}
 use Rattle.dur_base.specs.Goodness.{zero_key}
 use Rattle.dur_view.specs.Words.{writer_line, stands, is_key, is_key_of, has_no_key}
-use Rattle.dur_view.specs.IsSound.{IsSound, GoodTopics, first_open, FollowEachOther, IsWriterOf, depth_at, Wrote}
-use Rattle.dur_view.specs.Full.{full, more_topics, more_writers, new_writer, topic_place}
+use Rattle.dur_view.specs.IsSound.{IsSound, GoodTopics, first_open, FollowEachOther, depth_at, Wrote}
+use Rattle.dur_view.specs.Full.{full, more_topics, new_writer, topic_place}
 use Rattle.dur_view.proofs.KeptChanges.{get-left}
 use Rattle.dur_view.proofs.Deciding.{decides-pairs, decides-other, any-weaker}
 use Rattle.dur_view.proofs.MoreLists.{always, pairs-append, pairs-map, some-left, any-left}

@@ -2,7 +2,7 @@
 use Rattle.std.proofs.Common.{◌≡◌, ℕ, ◌+◌, ◌*◌, ◌^◌, ◌≤◌, ◌<◌, ◌-◌, ◌||◌, Bool, true, false, cond, map, List, [], ◌∷◌, ◌++◌, length, take, get_or, refl, sym, ap, ◌∙◌, arith}
 use Rattle.std.proofs.lemmas.List.{take_more}
 use Rattle.dur_view.specs.Identities.{Key}
-use Rattle.dur_view.specs.declared.line.Line.{Line}
+use Rattle.dur_view.specs.declared.state.InstanceState.{InstanceState}
 use Rattle.dur_view.specs.History.{TopicEvent, Effect, Gone}
 use Rattle.dur_view.specs.Past.{Made, Past, ◌▹◌, ◌▹▹◌}
 use Rattle.std.specs.Prelude.{nat_le}
@@ -30,19 +30,19 @@ changes-at : (b : Bool) (n : ℕ) → cond b (n + 1) n ≤ n + 1
 changes-at true n = omega arith
 changes-at false n = omega arith
 
-pub changes-after : (e : TopicEvent) (k : Key) (n : ℕ) (l : Line) → (line_after_event e k n l).changes ≤ l.changes + 1
+pub changes-after : (e : TopicEvent) (k : Key) (n : ℕ) (l : InstanceState) → (line_after_event e k n l).changes ≤ l.changes + 1
 changes-after e k n l = changes-at (is_of k e) l.changes
 
 -- a change's fates, told by its instance's line
-pub fate-is : (p : Past) (now : ℕ) (c : Made) (l : Line) (topic : Topic) (longest later : ℕ) (expired displaced purged all : Bool)
+pub fate-is : (p : Past) (now : ℕ) (c : Made) (l : InstanceState) (topic : Topic) (longest later : ℕ) (expired displaced purged all : Bool)
     → settings p ≡ topic → l ≡ line_in_past p c.sample.key → longest ≡ topic.delay * 2 ^ 32 → later ≡ l.changes - c.ordinal
     → expired ≡ is_over_by c.sample.lifespan c.sample.stamp now → displaced ≡ reaches topic.depth later → purged ≡ (nat_le c.ordinal l.purged || is_long l.quiet longest now)
     → all ≡ (expired || (displaced || purged)) → all ≡ has_fate p now c
 fate-is p now c l topic longest later expired displaced purged all set line long more e d u whole =
     let k = c.sample.key in
-    let changes : l.changes ≡ count p k = ap (λ (x : Line). x.changes) line in
-    let gone : l.purged ≡ purged_upto p k = ap (λ (x : Line). x.purged) line in
-    let quiet : l.quiet ≡ quiet_since p k = ap (λ (x : Line). x.quiet) line in
+    let changes : l.changes ≡ count p k = ap (λ (x : InstanceState). x.changes) line in
+    let gone : l.purged ≡ purged_upto p k = ap (λ (x : InstanceState). x.purged) line in
+    let quiet : l.quiet ≡ quiet_since p k = ap (λ (x : InstanceState). x.quiet) line in
     let delays : delay p ≡ longest = ap (λ (t : Topic). t.delay * 2 ^ 32) set ∙ sym long in
     let deep : is_displaced p c ≡ displaced =
     ap (λ (t : Topic). reaches t.depth (count p k - c.ordinal)) set ∙ ap (λ n. reaches topic.depth (n - c.ordinal)) (sym changes) ∙ ap (λ n. reaches topic.depth n) (sym more) ∙ sym d in

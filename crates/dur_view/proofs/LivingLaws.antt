@@ -4,7 +4,7 @@ use Rattle.std.specs.Prelude.{filter, option_map}
 use Rattle.std.proofs.lemmas.List.Elements.{filter-append}
 use Rattle.dur_qos.specs.declared.plan.Topic.{Topic}
 use Rattle.dur_view.specs.Identities.{Key}
-use Rattle.dur_view.specs.declared.line.Line.{Line}
+use Rattle.dur_view.specs.declared.state.InstanceState.{InstanceState}
 use Rattle.dur_view.specs.Past.{Made, Past}
 use Rattle.dur_view.specs.Words.{is_key}
 use Rattle.dur_view.specs.Fates.{settings, quiet_since, is_long, is_purged, was_born, exists, keys, existing, has_fate, living}
@@ -43,12 +43,12 @@ pub existing-is : (p : Past) (now : ℕ) → existing p now ≡ filter (λ k. no
 existing-is p now = filter-exists p now (keys p) (λ k has. sym (has_key-born p k) ∙ has)
 
 -- the line of an instance, beside the changes without a fate, says what the view does
-pub line-from : (p : Past) (t now : ℕ) (k : Key) (depth : Option ℕ) (cs : List Made) (l : Line) → depth ≡ (settings p).depth → cs ≡ living p now → l ≡ line_in_past p k
+pub line-from : (p : Past) (t now : ℕ) (k : Key) (depth : Option ℕ) (cs : List Made) (l : InstanceState) → depth ≡ (settings p).depth → cs ≡ living p now → l ≡ line_in_past p k
     → line_from t depth cs k l ≡ line_of p t now k
 line-from p t now k depth cs l deep alive line =
-    ap (λ (o : Option ℕ). line_from t o cs k l) deep ∙ ap (λ (xs : List Made). line_from t (settings p).depth xs k l) alive ∙ ap (λ (x : Line). line_from t (settings p).depth (living p now) k x) line
+    ap (λ (o : Option ℕ). line_from t o cs k l) deep ∙ ap (λ (xs : List Made). line_from t (settings p).depth xs k l) alive ∙ ap (λ (x : InstanceState). line_from t (settings p).depth (living p now) k x) line
 
 -- and it tells whether the instance is purged
-pub purged-told : (p : Past) (k : Key) (now : ℕ) (l : Line) (topic : Topic) (longest : ℕ) → settings p ≡ topic → l ≡ line_in_past p k → longest ≡ topic.delay * 2 ^ 32 → is_long l.quiet longest now ≡ is_purged p k now
+pub purged-told : (p : Past) (k : Key) (now : ℕ) (l : InstanceState) (topic : Topic) (longest : ℕ) → settings p ≡ topic → l ≡ line_in_past p k → longest ≡ topic.delay * 2 ^ 32 → is_long l.quiet longest now ≡ is_purged p k now
 purged-told p k now l topic longest set line long =
-    ap (λ (x : Line). is_long x.quiet longest now) line ∙ ap (λ n. is_long (quiet_since p k) n now) (long ∙ ap (λ (t : Topic). t.delay * 2 ^ 32) (sym set))
+    ap (λ (x : InstanceState). is_long x.quiet longest now) line ∙ ap (λ n. is_long (quiet_since p k) n now) (long ∙ ap (λ (t : Topic). t.delay * 2 ^ 32) (sym set))

@@ -1,11 +1,11 @@
 -- The persistent part of the full view of a start that lacks nothing of the persistent plan is that start.
-use Rattle.std.proofs.Common.{◌≡◌, ℕ, zero, suc, ◌+◌, ◌≤◌, ◌<◌, Bool, true, false, cond, not, Option, Some, None, List, [], ◌∷◌, ◌++◌, map, length, get_or, refl, sym, ap, ◌∙◌, subst, append-nil, arith, length-append, ◌⊎◌, inl, inr}
-use Rattle.std.specs.Prelude.{◌≢◌, filter, is_some, slice_get, option_map, option_and_then, unwrap_or, All, AllPairs, Any, Contains, IsSomeAnd}
+use Rattle.std.proofs.Common.{◌≡◌, ℕ, zero, suc, ◌+◌, ◌<◌, Bool, true, false, cond, not, Option, Some, None, List, [], ◌∷◌, ◌++◌, map, length, get_or, refl, sym, ap, ◌∙◌, subst, append-nil, arith, ◌⊎◌, inl, inr}
+use Rattle.std.specs.Prelude.{◌≢◌, filter, is_some, slice_get, option_map, option_and_then, unwrap_or, All, AllPairs, Any, Contains}
 use Rattle.std.specs.List.{slice_index_or, list_all}
 use Rattle.std.specs.Str.{bytes_eq}
 use Rattle.std.proofs.lemmas.Bool.{cases_Bool, cases_order, not-true}
 use Rattle.std.proofs.lemmas.List.{map-id}
-use Rattle.std.proofs.lemmas.List.Elements.{All-nil, All-head, All-tail, All-weaker, All-append, All-filter, All-map, All-from_recursion, All-contains_itself, filter-append, filter_passes}
+use Rattle.std.proofs.lemmas.List.Elements.{All-head, All-tail, All-weaker, All-append, All-filter, All-map, All-from_recursion, All-contains_itself, filter-append, filter_passes}
 use Rattle.std.proofs.lemmas.Option.{slice_get_within, slice_get-get_or, get_or_from_slice_get}
 use Rattle.std.proofs.lemmas.Slice.Eq.{bytes_eq-Decides}
 use Rattle.dur_qos.specs.declared.plan.Plan.{Plan}
@@ -20,7 +20,7 @@ use Rattle.dur_view.specs.declared.data.View.{View}
 use Rattle.dur_view.specs.Words.{stands}
 use Rattle.dur_view.specs.Past.{no_topic}
 use Rattle.dur_view.specs.IsSound.{IsSound, IsWriterOf}
-use Rattle.dur_view.specs.Full.{full, more_topics, more_writers, new_writer, topic_place}
+use Rattle.dur_view.specs.Full.{full, more_topics, more_writers, new_writer}
 use Rattle.dur_view.specs.Persistent.{is_persistent, passes_at, place_among, writer_stays, instance_stays, kept_stays, writer_among, instance_among, kept_among, persistent_view, HasPersistentPart}
 use Rattle.dur_view.proofs.KeptChanges.{get-left}
 use Rattle.dur_view.proofs.Deciding.{decides-all}

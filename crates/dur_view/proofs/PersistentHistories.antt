@@ -1,15 +1,14 @@
 -- The persistent part of a history is a history.
-use Rattle.std.proofs.Common.{◌≡◌, ℕ, ◌≤◌, Bool, true, false, cond, Option, Some, None, List, [], ◌∷◌, ◌++◌, refl, sym, ap, ◌∙◌, subst, arith}
-use Rattle.std.specs.Prelude.{filter, is_some, option_map}
+use Rattle.std.proofs.Common.{◌≡◌, ℕ, ◌≤◌, Bool, true, false, cond, Option, Some, None, refl, sym, ap, ◌∙◌, subst, arith}
+use Rattle.std.specs.Prelude.{is_some, option_map}
 use Rattle.dur_base.specs.declared.entry.Entry.{Entry}
 use Rattle.dur_base.specs.declared.entry.Entry.TheVariants.{Took, Skip, Lost}
-use Rattle.dur_view.specs.Identities.{Guid}
 use Rattle.dur_view.specs.declared.data.KeptWriter.{KeptWriter}
 use Rattle.dur_view.specs.declared.data.View.{View}
 use Rattle.dur_view.specs.Words.{writer_line, topic_of, stands, is_key_of}
-use Rattle.dur_view.specs.History.{History, Start, ◌▸◌, ◌+>◌, start, moment, moment_of, writer_of, has_number, HasGoodSample, Follows, AllFollow}
+use Rattle.dur_view.specs.History.{History, Start, ◌▸◌, start, moment, moment_of, writer_of, has_number, HasGoodSample, Follows}
 use Rattle.dur_view.specs.IsSound.{IsHistory}
-use Rattle.dur_view.specs.Persistent.{is_persistent, writer_among, persistent_view, persistent}
+use Rattle.dur_view.specs.Persistent.{writer_among, persistent_view, persistent}
 use Rattle.dur_view.proofs.PersistentWriters.{start-persistent, in_persistent, line-persistent, topic-persistent, next-persistent}
 use Rattle.dur_view.proofs.PersistentSound.{key-among, persistent-sound}
 

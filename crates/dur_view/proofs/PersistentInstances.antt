@@ -12,7 +12,7 @@ use Rattle.dur_view.specs.History.{History, start}
 use Rattle.dur_view.specs.Past.{Past, past}
 use Rattle.dur_view.specs.Fates.{existing}
 use Rattle.dur_view.specs.IsSound.{IsHistory}
-use Rattle.dur_view.specs.View.{view, line_of, lines_at, place_of, instances_upto}
+use Rattle.dur_view.specs.View.{view, line_of, lines_at, key_place, instances_upto}
 use Rattle.dur_view.specs.Persistent.{is_persistent, passes_at, place_among, instance_stays, instance_among, persistent}
 use Rattle.dur_view.proofs.Base.{at_or_below}
 use Rattle.dur_view.proofs.LineLaws.{map-append}
@@ -104,6 +104,6 @@ pub among-line : (v : View) (t n : ℕ) (h : History) (m j : ℕ) → t < n → 
 among-line v t zero h m j below stay lt = absurd (omega arith)
 among-line v t (suc n) h m j below stay lt = among-line-at v t n h m j stay lt (at_or_below t n below) (λ less. among-line v t n h m j less stay lt)
 
-pub place-of-with : (up f : ℕ → ℕ) (lines : List Instance) (k : Key) → place_of (map (line_with up f) lines) k ≡ place_of lines k
+pub place-of-with : (up f : ℕ → ℕ) (lines : List Instance) (k : Key) → key_place (map (line_with up f) lines) k ≡ key_place lines k
 place-of-with up f [] k = refl
 place-of-with up f (line ∷ lines) k = ap (λ n. cond (is_key line.key k) 0 (n + 1)) (place-of-with up f lines k)

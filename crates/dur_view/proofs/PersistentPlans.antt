@@ -1,10 +1,10 @@
 -- The persistent part of a good plan is good.
-use Rattle.std.proofs.Common.{◌≡◌, ℕ, ◌+◌, ◌≤◌, ◌<◌, Bool, true, false, cond, not, Option, Some, None, List, [], ◌∷◌, ◌++◌, map, length, refl, sym, ap, ◌∙◌, subst, append_assoc, arith, inl, inr}
+use Rattle.std.proofs.Common.{◌≡◌, ℕ, ◌+◌, Bool, true, false, cond, not, Some, None, List, [], ◌∷◌, ◌++◌, length, refl, sym, ap, ◌∙◌, subst, append_assoc, arith, inl, inr}
 use Rattle.std.specs.Prelude.{◌≢◌, filter, All, AllPairs}
-use Rattle.std.specs.List.{slice_index_or, AllByRecursion}
+use Rattle.std.specs.List.{AllByRecursion}
 use Rattle.std.specs.Str.{bytes_eq}
 use Rattle.std.proofs.lemmas.Bool.{cases_Bool}
-use Rattle.std.proofs.lemmas.List.Elements.{All-nil, All-head, All-tail, All-filter, All-from_recursion, recursion_from_All}
+use Rattle.std.proofs.lemmas.List.Elements.{All-head, All-tail, All-filter, All-from_recursion, recursion_from_All}
 use Rattle.std.proofs.lemmas.List.Kept.{AllPairs-filter}
 use Rattle.std.proofs.lemmas.List.Sums.{length-filter, count_by-le-length}
 use Rattle.std.proofs.lemmas.Slice.Eq.{bytes_eq-Decides}
@@ -14,7 +14,7 @@ use Rattle.dur_qos.specs.declared.plan.WriterLine.{WriterLine}
 use Rattle.dur_qos.specs.declared.plan.ReaderLine.{ReaderLine}
 use Rattle.dur_qos.specs.Plan.{place_from, place_of, has_writer, has_reader, is_above}
 use Rattle.dur_qos.specs.Good.{GoodPlan, IsGoodTopic, IsGoodWriter, IsGoodReader, EachIsNew}
-use Rattle.dur_view.specs.Persistent.{is_persistent, passes_at, place_among, writer_line_among, reader_line_among, persistent_plan}
+use Rattle.dur_view.specs.Persistent.{is_persistent, passes_at, writer_line_among, reader_line_among, persistent_plan}
 use Rattle.dur_view.proofs.Deciding.{decides-pairs, decides-other, pairs-head, pairs-tail}
 use Rattle.dur_view.proofs.EachTwo.{two-new}
 use Rattle.dur_view.proofs.GoodTopics.{good-topics, turned}

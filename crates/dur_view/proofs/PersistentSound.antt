@@ -1,9 +1,7 @@
 -- The persistent part of a sound view is sound.
-use Rattle.std.proofs.Common.{◌≡◌, ℕ, ◌+◌, ◌≤◌, ◌<◌, Bool, true, false, not, ◌||◌, Option, Some, None, List, [], ◌∷◌, map, length, refl, sym, ap, ◌∙◌, subst, arith, ◌⊎◌, inl, inr}
+use Rattle.std.proofs.Common.{◌≡◌, ℕ, ◌≤◌, ◌<◌, Bool, true, false, not, ◌||◌, Option, Some, None, List, [], ◌∷◌, map, length, refl, sym, ap, ◌∙◌, subst, arith, inl, inr}
 use Rattle.std.specs.Prelude.{◌≢◌, ◌↔◌, filter, slice_get, option_map, unwrap_or, All, AllPairs, Any, IsSome, IfSome, IsSomeAnd}
 use Rattle.std.specs.List.{slice_index_or}
-use Rattle.std.specs.declared.cmp.Ordering.TheVariants.{Less}
-use Rattle.std.proofs.lemmas.List.{length-map}
 use Rattle.std.proofs.lemmas.List.Sums.{length-filter, count_by-le-length}
 use Rattle.std.proofs.lemmas.List.Elements.{All-filter, All-map}
 use Rattle.std.proofs.lemmas.List.Kept.{AllPairs-filter}
@@ -19,13 +17,12 @@ use Rattle.dur_view.specs.declared.data.Kept.{Kept}
 use Rattle.dur_view.specs.declared.data.KeptWriter.{KeptWriter}
 use Rattle.dur_view.specs.declared.data.View.{View}
 use Rattle.dur_view.specs.Words.{is_key, is_key_of, is_change, has_no_key}
-use Rattle.dur_view.specs.Fates.{key_cmp}
 use Rattle.dur_view.specs.IsSound.{IsSound, GoodTopics, first_open, FollowEachOther, StandsBefore, IsWriterOf, depth_at, InstanceOf, topic_at, Wrote}
 use Rattle.dur_view.specs.Persistent.{is_persistent, passes_at, place_among, writer_stays, instance_stays, kept_stays, writer_among, instance_among, kept_among, persistent_view}
 use Rattle.dur_view.proofs.PersistentPlaces.{among-later, among-one, get-among}
 use Rattle.dur_view.proofs.SoundNumbersBounds.{open-is}
 use Rattle.dur_view.proofs.MoreLists.{pairs-map}
-use Rattle.dur_view.proofs.StayingLists.{all-staying, pairs-staying, any-staying, few-stay, StandsAt, stands-at, among-under, among-le, get-staying, some-staying}
+use Rattle.dur_view.proofs.StayingLists.{all-staying, pairs-staying, any-staying, few-stay, stands-at, among-under, among-le, get-staying, some-staying}
 use Rattle.dur_view.proofs.FirstOrdinals.{FirstOf, all-first, from-one, begin-by-first}
 
 abbrev topic_among : View → ℕ → ℕ

@@ -12,7 +12,7 @@ use Rattle.dur_view.specs.Past.{Made, Past, past}
 use Rattle.dur_view.specs.Fates.{settings, exists, made, living}
 use Rattle.dur_view.specs.Sound.{Each}
 use Rattle.dur_view.specs.IsSound.{IsHistory}
-use Rattle.dur_view.specs.View.{view, lines_at, place_of, kept_from, kept_of, counted, is_made_of, instances_upto, kept_upto}
+use Rattle.dur_view.specs.View.{view, lines_at, key_place, kept_from, kept_of, counted, is_made_of, instances_upto, kept_upto}
 use Rattle.dur_view.specs.Persistent.{is_persistent, passes_at, place_among, instance_stays, kept_stays, kept_among, persistent_view, persistent}
 use Rattle.dur_view.proofs.LineLaws.{map-append}
 use Rattle.dur_view.proofs.SoundViews.{sound_parts}
@@ -29,8 +29,8 @@ use Rattle.dur_view.proofs.PersistentInstances.{instances-persistent, count-pers
 
 -- a change whose instance stays, and has its place among those that stay
 record Fits (v : View) (at to : ℕ) (lines others : List Instance) (c : Made) : Type 0 where
-  stays : passes_at (instance_stays v) v.instances (at + place_of lines c.sample.key) ≡ true
-  place : place_among (instance_stays v) v.instances (at + place_of lines c.sample.key) ≡ to + place_of others c.sample.key
+  stays : passes_at (instance_stays v) v.instances (at + key_place lines c.sample.key) ≡ true
+  place : place_among (instance_stays v) v.instances (at + key_place lines c.sample.key) ≡ to + key_place others c.sample.key
 
 kept-step : (v : View) (x y : Kept) (xs ys : List Kept) → kept_stays v x ≡ true → kept_among v x ≡ y → map (kept_among v) (filter (kept_stays v) xs) ≡ ys
     → map (kept_among v) (filter (kept_stays v) (x ∷ xs)) ≡ y ∷ ys
@@ -48,7 +48,7 @@ kept-with v p q at to lines others all before (c ∷ cs) set each =
 skip-step : (v : View) (x : Kept) (xs : List Kept) → kept_stays v x ≡ false → filter (kept_stays v) xs ≡ [] → filter (kept_stays v) (x ∷ xs) ≡ []
 skip-step v x xs is rest = cc
 
-kept-none : (v : View) (p : Past) (at : ℕ) (lines : List Instance) (all before cs : List Made) → Each (λ c. passes_at (instance_stays v) v.instances (at + place_of lines c.sample.key) ≡ false) cs
+kept-none : (v : View) (p : Past) (at : ℕ) (lines : List Instance) (all before cs : List Made) → Each (λ c. passes_at (instance_stays v) v.instances (at + key_place lines c.sample.key) ≡ false) cs
     → filter (kept_stays v) (kept_from at p lines all before cs) ≡ []
 kept-none v p at lines all before [] each = refl
 kept-none v p at lines all before (c ∷ cs) each = skip-step v _ _ each.0 (kept-none v p at lines all (before ++ c ∷ []) cs each.1)
@@ -63,7 +63,7 @@ fits-one : (h : History) (m t : ℕ) (c : Made) → IsHistory h → t < length (
 fits-one h m t c follow lt stay there =
     let v = start h in
     let p = past t h in
-    let j = place_of (lines_at t p m) c.sample.key in
+    let j = key_place (lines_at t p m) c.sample.key in
     let within = place-there p t m c.sample.key there in
     let lines = lines-with (place_stays v) (topic_place v) (writer_place v) p t m (keeps-order v) (placed-past h t follow stay) in
     record {
@@ -71,7 +71,7 @@ fits-one h m t c follow lt stay there =
       place =
           among-line v t (length v.topics) h m j lt stay within ∙ ap (λ n. n + j) (count-persistent h m t follow)
           ∙ ap (λ n. length (instances_upto (topic_place v t) (persistent h) m) + n)
-          (sym (ap (λ (l : List Instance). place_of l c.sample.key) lines ∙ place-of-with (topic_place v) (writer_place v) (lines_at t p m) c.sample.key));
+          (sym (ap (λ (l : List Instance). key_place l c.sample.key) lines ∙ place-of-with (topic_place v) (writer_place v) (lines_at t p m) c.sample.key));
     }
 
 kept-here : (h : History) (m t : ℕ) → IsHistory h → t < length (start h).topics → persistent_topic (start h) t ≡ true
@@ -98,8 +98,8 @@ kept-elsewhere h m t follow lt out =
     let at = length (instances_upto t h m) in
     let lines = lines_at t p m in
     kept-none (view h m) p at lines (living p m) [] (living p m)
-    (Each-weaken (λ c. exists p c.sample.key m ≡ true) (λ c. passes_at (instance_stays v) (view h m).instances (at + place_of lines c.sample.key) ≡ false)
-    (λ c there. stays-at-line v t (length v.topics) h m (place_of lines c.sample.key) lt (place-there p t m c.sample.key there) ∙ out) (living p m) (each-exists h m t follow))
+    (Each-weaken (λ c. exists p c.sample.key m ≡ true) (λ c. passes_at (instance_stays v) (view h m).instances (at + key_place lines c.sample.key) ≡ false)
+    (λ c there. stays-at-line v t (length v.topics) h m (key_place lines c.sample.key) lt (place-there p t m c.sample.key there) ∙ out) (living p m) (each-exists h m t follow))
 
 -- the kept changes of the first topics
 kept-at : (h : History) (m t : ℕ) (b : Bool) → IsHistory h → t < length (start h).topics → persistent_topic (start h) t ≡ b

@@ -7,7 +7,7 @@ use Rattle.std.proofs.lemmas.List.Sums.{count_by-le-length}
 use Rattle.dur_qos.specs.declared.plan.Topic.{Topic}
 use Rattle.dur_qos.specs.Good.{IsLimit, IsGoodTopic}
 use Rattle.dur_view.specs.Identities.{Key}
-use Rattle.dur_view.specs.declared.line.Line.{Line}
+use Rattle.dur_view.specs.declared.state.InstanceState.{InstanceState}
 use Rattle.dur_view.specs.Past.{Made, Past, no_topic}
 use Rattle.dur_view.specs.Fates.{settings, count, made, reaches, is_expired, is_displaced, is_purged_with, has_fate, living}
 use Rattle.dur_view.specs.Lines.{line_in_past}
@@ -74,14 +74,14 @@ pub changes-short : (p : Past) (now : ℕ) (k : Key) → IsInRange p → length 
 changes-short p now k range few = short p now k (count p k) (count_by (is_made_of k) (living p now)) range (omega arith) (let le = count_by-le-length (is_made_of k) (living p now) in omega arith)
 
 -- as the line and the living changes tell them
-pub line-short : (p : Past) (now : ℕ) (k : Key) (depth : Option ℕ) (cs : List Made) (l : Line) → depth ≡ (settings p).depth → cs ≡ living p now → l ≡ line_in_past p k → IsInRange p → length cs < 2 ^ 64
+pub line-short : (p : Past) (now : ℕ) (k : Key) (depth : Option ℕ) (cs : List Made) (l : InstanceState) → depth ≡ (settings p).depth → cs ≡ living p now → l ≡ line_in_past p k → IsInRange p → length cs < 2 ^ 64
     → counted_in depth cs k l.changes (count_by (is_made_of k) cs) < 2 ^ 64
 line-short p now k depth cs l deep alive line range few =
     let short = changes-short p now k range (subst (λ (xs : List Made). length xs < 2 ^ 64) alive few) in
     let is : counted_in depth cs k l.changes (count_by (is_made_of k) cs) ≡ counted_in (settings p).depth (living p now) k (count p k) (count_by (is_made_of k) (living p now)) =
     ap (λ (o : Option ℕ). counted_in o cs k l.changes (count_by (is_made_of k) cs)) deep
     ∙ ap (λ (xs : List Made). counted_in (settings p).depth xs k l.changes (count_by (is_made_of k) xs)) alive
-    ∙ ap (λ (x : Line). counted_in (settings p).depth (living p now) k x.changes (count_by (is_made_of k) (living p now))) line in
+    ∙ ap (λ (x : InstanceState). counted_in (settings p).depth (living p now) k x.changes (count_by (is_made_of k) (living p now))) line in
     subst (λ n. n < 2 ^ 64) (sym is) short
 
 -- an ordinal

@@ -12,7 +12,7 @@ use Rattle.dur_view.specs.Words.{is_key, is_change}
 use Rattle.dur_view.specs.History.{History}
 use Rattle.dur_view.specs.Past.{Made, Past, past}
 use Rattle.dur_view.specs.Fates.{settings, count, line_in, exists, has_fate, made, living}
-use Rattle.dur_view.specs.View.{is_made_of, counted, changes_of, line_of, lines_at, place_of, kept_from, kept_of, instances_upto}
+use Rattle.dur_view.specs.View.{is_made_of, counted, changes_of, line_of, lines_at, key_place, kept_from, kept_of, instances_upto}
 use Rattle.dur_view.specs.Sound.{Each, Rises, Listed, Ordered}
 use Rattle.dur_view.proofs.Pairs.{is_key-refl}
 use Rattle.dur_view.proofs.Base.{is_key-true, found-line}
@@ -35,27 +35,27 @@ each-living p m [] each good = tt
 each-living p m (c ∷ cs) each good = each-living-at p m c (filter (λ x. not (has_fate p m x)) cs) (has_fate p m c) refl each.0 good.0 (each-living p m cs each.1 good.1)
 
 -- ---- the line at a key's place is the one that the key finds
-get-place-at : (line : Instance) (lines : List Instance) (k : Key) (b : Bool) → slice_get lines (place_of lines k) ≡ line_in lines k → slice_get (line ∷ lines) (cond b 0 (place_of lines k + 1)) ≡ cond b (Some line) (line_in lines k)
+get-place-at : (line : Instance) (lines : List Instance) (k : Key) (b : Bool) → slice_get lines (key_place lines k) ≡ line_in lines k → slice_get (line ∷ lines) (cond b 0 (key_place lines k + 1)) ≡ cond b (Some line) (line_in lines k)
 get-place-at line lines k true rest = refl
-get-place-at line lines k false rest = ap (λ i. slice_get (line ∷ lines) i) (let e : place_of lines k + 1 ≡ suc (place_of lines k) = omega arith in e) ∙ rest
+get-place-at line lines k false rest = ap (λ i. slice_get (line ∷ lines) i) (let e : key_place lines k + 1 ≡ suc (key_place lines k) = omega arith in e) ∙ rest
 
-get-place : (lines : List Instance) (k : Key) → slice_get lines (place_of lines k) ≡ line_in lines k
+get-place : (lines : List Instance) (k : Key) → slice_get lines (key_place lines k) ≡ line_in lines k
 get-place [] k = refl
 get-place (line ∷ lines) k = get-place-at line lines k (is_key line.key k) (get-place lines k)
 
-pub place-line : (p : Past) (t m : ℕ) (k : Key) → exists p k m ≡ true → slice_get (lines_at t p m) (place_of (lines_at t p m) k) ≡ Some (line_of p t m k)
+pub place-line : (p : Past) (t m : ℕ) (k : Key) → exists p k m ≡ true → slice_get (lines_at t p m) (key_place (lines_at t p m) k) ≡ Some (line_of p t m k)
 place-line p t m k there = get-place (lines_at t p m) k ∙ found-line p t m k ∙ ap (λ b. cond b (Some (line_of p t m k)) None) there
 
 line-there : (u n : ℕ) (h : History) (m : ℕ) (k : Key) → u < n → exists (past u h) k m ≡ true
-    → slice_get (instances_upto n h m) (length (instances_upto u h m) + place_of (lines_at u (past u h) m) k) ≡ Some (line_of (past u h) u m k)
-line-there u n h m k lt there = get-line u n h m (place_of (lines_at u (past u h) m) k) lt (place-there (past u h) u m k there) ∙ place-line (past u h) u m k there
+    → slice_get (instances_upto n h m) (length (instances_upto u h m) + key_place (lines_at u (past u h) m) k) ≡ Some (line_of (past u h) u m k)
+line-there u n h m k lt there = get-line u n h m (key_place (lines_at u (past u h) m) k) lt (place-there (past u h) u m k there) ∙ place-line (past u h) u m k there
 
 -- ---- the kept change that is made of one of all
 abbrev pub ordinal_at : Past → List Made → List Made → Made → ℕ
 ordinal_at p all before c = counted (settings p).depth (find (is_made_of c.sample.key) all) c.ordinal (count_by (is_made_of c.sample.key) before + 1)
 
 abbrev pub kept_change : ℕ → Past → List Instance → List Made → List Made → Made → Kept
-kept_change at p lines all before c = record { instance = at + place_of lines c.sample.key; ordinal = ordinal_at p all before c; writer = c.writer; number = c.number; arrived = c.arrived; sample = c.sample }
+kept_change at p lines all before c = record { instance = at + key_place lines c.sample.key; ordinal = ordinal_at p all before c; writer = c.writer; number = c.number; arrived = c.arrived; sample = c.sample }
 
 -- the first one of a key has ordinal 1
 abbrev begins : ℕ → Kept → Bool
@@ -89,20 +89,20 @@ some-same x f o b is e = cc
 
 begins-at : (at : ℕ) (p : Past) (lines : List Instance) (all before : List Made) (x : Made) (cs : List Made) (k : Key) (f : Made) (b : Bool) → is_key x.sample.key k ≡ b
     → find (is_made_of k) all ≡ Some f → cond b (Some x) (find (is_made_of k) cs) ≡ Some f → count_by (is_made_of k) before ≡ 0
-    → (find (is_made_of k) cs ≡ Some f → count_by (is_made_of k) (before ++ x ∷ []) ≡ 0 → list_any (begins (at + place_of lines k)) (kept_from at p lines all (before ++ x ∷ []) cs) ≡ true)
-    → list_any (begins (at + place_of lines k)) (kept_from at p lines all before (x ∷ cs)) ≡ true
+    → (find (is_made_of k) cs ≡ Some f → count_by (is_made_of k) (before ++ x ∷ []) ≡ 0 → list_any (begins (at + key_place lines k)) (kept_from at p lines all (before ++ x ∷ []) cs) ≡ true)
+    → list_any (begins (at + key_place lines k)) (kept_from at p lines all before (x ∷ cs)) ≡ true
 begins-at at p lines all before x cs k f true same found here none rest =
     let key = is_key-true x.sample.key k same in
     let one = first-ordinal p all before k x f key (some-same x f (find (is_made_of k) cs) true refl here) found none in
-    or_left (begins (at + place_of lines k) (kept_change at p lines all before x)) (list_any (begins (at + place_of lines k)) (kept_from at p lines all (before ++ x ∷ []) cs))
-    (and-both (at + place_of lines x.sample.key == at + place_of lines k) (ordinal_at p all before x == 1)
-    (eq-eqb (at + place_of lines x.sample.key) (at + place_of lines k) (ap (λ (j : Key). at + place_of lines j) key)) (eq-eqb (ordinal_at p all before x) 1 one))
+    or_left (begins (at + key_place lines k) (kept_change at p lines all before x)) (list_any (begins (at + key_place lines k)) (kept_from at p lines all (before ++ x ∷ []) cs))
+    (and-both (at + key_place lines x.sample.key == at + key_place lines k) (ordinal_at p all before x == 1)
+    (eq-eqb (at + key_place lines x.sample.key) (at + key_place lines k) (ap (λ (j : Key). at + key_place lines j) key)) (eq-eqb (ordinal_at p all before x) 1 one))
 begins-at at p lines all before x cs k f false same found here none rest =
-    or_right (begins (at + place_of lines k) (kept_change at p lines all before x)) (list_any (begins (at + place_of lines k)) (kept_from at p lines all (before ++ x ∷ []) cs))
+    or_right (begins (at + key_place lines k) (kept_change at p lines all before x)) (list_any (begins (at + key_place lines k)) (kept_from at p lines all (before ++ x ∷ []) cs))
     (rest here (count-more k before x same none))
 
 begins-from : (at : ℕ) (p : Past) (lines : List Instance) (all before cs : List Made) (k : Key) (f : Made)
-    → find (is_made_of k) all ≡ Some f → find (is_made_of k) cs ≡ Some f → count_by (is_made_of k) before ≡ 0 → list_any (begins (at + place_of lines k)) (kept_from at p lines all before cs) ≡ true
+    → find (is_made_of k) all ≡ Some f → find (is_made_of k) cs ≡ Some f → count_by (is_made_of k) before ≡ 0 → list_any (begins (at + key_place lines k)) (kept_from at p lines all before cs) ≡ true
 begins-from at p lines all before [] k f found here none = absurd (cc)
 begins-from at p lines all before (x ∷ cs) k f found here none =
     begins-at at p lines all before x cs k f (is_key x.sample.key k) refl found here none (λ more still. begins-from at p lines all (before ++ x ∷ []) cs k f found more still)

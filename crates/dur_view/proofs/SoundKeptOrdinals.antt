@@ -8,7 +8,7 @@ use Rattle.dur_view.specs.Identities.{Key}
 use Rattle.dur_view.specs.declared.data.Instance.{Instance}
 use Rattle.dur_view.specs.Past.{Made, Past}
 use Rattle.dur_view.specs.Fates.{settings, exists, has_fate, made, living}
-use Rattle.dur_view.specs.View.{is_made_of, counted, line_of, lines_at, place_of, kept_from, kept_of}
+use Rattle.dur_view.specs.View.{is_made_of, counted, line_of, lines_at, key_place, kept_from, kept_of}
 use Rattle.dur_view.specs.Sound.{Each, Rises, Ordered}
 use Rattle.dur_view.proofs.SoundTests.{each_two}
 use Rattle.dur_view.proofs.Pairs.{is_key-refl}
@@ -28,7 +28,7 @@ climbs-filter test [] a = tt
 climbs-filter test (x ∷ xs) a = climbs-filter-at (test x) x (filter test xs) (Each-filter (IsBefore x) test xs a.0) (climbs-filter test xs a.1)
 
 -- two keys at one place are one
-same-key : (p : Past) (t m : ℕ) (j k : Key) → exists p j m ≡ true → exists p k m ≡ true → place_of (lines_at t p m) j ≡ place_of (lines_at t p m) k → j ≡ k
+same-key : (p : Past) (t m : ℕ) (j k : Key) → exists p j m ≡ true → exists p k m ≡ true → key_place (lines_at t p m) j ≡ key_place (lines_at t p m) k → j ≡ k
 same-key p t m j k at_j at_k same =
     let one : Some (line_of p t m j) ≡ Some (line_of p t m k) = sym (place-line p t m j at_j) ∙ ap (λ i. slice_get (lines_at t p m) i) same ∙ place-line p t m k at_k in
     let line : line_of p t m j ≡ line_of p t m k = cc in
@@ -54,15 +54,15 @@ ordinal-less p all before later c d first key less fits =
     let lower = counted-less depth f c.ordinal d.ordinal b a first.before less more in
     omega arith
 
-rise-one-at : (p : Past) (t m at : ℕ) (all before later : List Made) (c d : Made) (b : Bool) → (at + place_of (lines_at t p m) c.sample.key == at + place_of (lines_at t p m) d.sample.key) ≡ b
+rise-one-at : (p : Past) (t m at : ℕ) (all before later : List Made) (c d : Made) (b : Bool) → (at + key_place (lines_at t p m) c.sample.key == at + key_place (lines_at t p m) d.sample.key) ≡ b
     → First all c → exists p c.sample.key m ≡ true → exists p d.sample.key m ≡ true → IsBefore c d
     → count_by (is_made_of c.sample.key) before + 1 ≤ count_by (is_made_of c.sample.key) later
     → (not b || nat_lt (ordinal_at p all before c) (ordinal_at p all later d)) ≡ true
 rise-one-at p t m at all before later c d false same first at_c at_d less fits = refl
 rise-one-at p t m at all before later c d true same first at_c at_d less fits =
     let lines = lines_at t p m in
-    let places = eqb-true (at + place_of lines c.sample.key) (at + place_of lines d.sample.key) same in
-    let key = same-key p t m c.sample.key d.sample.key at_c at_d (let e : place_of lines c.sample.key ≡ place_of lines d.sample.key = omega arith in e) in
+    let places = eqb-true (at + key_place lines c.sample.key) (at + key_place lines d.sample.key) same in
+    let key = same-key p t m c.sample.key d.sample.key at_c at_d (let e : key_place lines c.sample.key ≡ key_place lines d.sample.key = omega arith in e) in
     let own : is_made_of d.sample.key c ≡ true = subst (λ (k : Key). is_made_of k c ≡ true) key (is_key-refl c.sample.key) in
     lt-ltb (ordinal_at p all before c) (ordinal_at p all later d) (ordinal-less p all before later c d first key (less own) fits)
 
@@ -78,7 +78,7 @@ rise-all p t m at all before later c (d ∷ ds) first there each less fits =
     let lines = lines_at t p m in
     let more = count-push c.sample.key later d in
     and-both (ord_less (kept_change at p lines all before c) (kept_change at p lines all later d)) (list_all (ord_less (kept_change at p lines all before c)) (kept_from at p lines all (later ++ d ∷ []) ds))
-    (rise-one-at p t m at all before later c d (at + place_of lines c.sample.key == at + place_of lines d.sample.key) refl first there (living-exists p m d each.0.listed each.0.alive) less.0 fits)
+    (rise-one-at p t m at all before later c d (at + key_place lines c.sample.key == at + key_place lines d.sample.key) refl first there (living-exists p m d each.0.listed each.0.alive) less.0 fits)
     (rise-all p t m at all before (later ++ d ∷ []) c ds first there each.1 less.1 (omega arith))
 
 rise-from : (p : Past) (t m at : ℕ) (all before cs : List Made) → Rises all → Each (Living p m) cs → Climbs cs → before ++ cs ≡ all → each_two ord_less (kept_from at p (lines_at t p m) all before cs) ≡ true

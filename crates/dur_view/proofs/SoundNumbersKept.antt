@@ -15,7 +15,7 @@ use Rattle.dur_view.specs.Fates.{made, has_fate, living, exists, existing}
 use Rattle.dur_view.specs.IsSound.{IsHistory, topic_at, first_open}
 use Rattle.dur_view.proofs.SoundTests.{each_two}
 use Rattle.dur_view.specs.Sound.{Each}
-use Rattle.dur_view.specs.View.{view, line_after, line_of, lines_at, place_of, kept_from, kept_of, kept_upto, instances_upto}
+use Rattle.dur_view.specs.View.{view, line_after, line_of, lines_at, key_place, kept_from, kept_of, kept_upto, instances_upto}
 use Rattle.dur_view.proofs.SameEffects.{is_same-true, line_is, writer_line-map}
 use Rattle.dur_view.proofs.KeptChanges.{Each-filter, each-living, get-line, place-there}
 use Rattle.dur_view.proofs.Parts.{Ordered-past}
@@ -42,7 +42,7 @@ two-append test (x ∷ xs) ys a b cross =
 
 -- ---- what is kept of a topic's changes
 abbrev pub kept_as : ℕ → List Instance → ℕ → Made → Kept
-kept_as at lines o c = record { instance = at + place_of lines c.sample.key; ordinal = o; writer = c.writer; number = c.number; arrived = c.arrived; sample = c.sample }
+kept_as at lines o c = record { instance = at + key_place lines c.sample.key; ordinal = o; writer = c.writer; number = c.number; arrived = c.arrived; sample = c.sample }
 
 pub all-from : (test : Kept → Bool) (P : Made → Type 0) (at : ℕ) (p : Past) (lines : List Instance) (all before cs : List Made) → ((o : ℕ) (c : Made) → P c → test (kept_as at lines o c) ≡ true) → Each P cs
     → list_all test (kept_from at p lines all before cs) ≡ true
@@ -155,7 +155,7 @@ below-line h m t c (Some line) found some topic here low =
 below-one : (h : History) (m t o : ℕ) (c : Made) → t < length (start h).topics → Placed h m t c → below h m (kept_as (length (instances_upto t h m)) (lines_at t (past t h) m) o c) ≡ true
 below-one h m t o c lt placed =
     let p = past t h in
-    let place = place_of (lines_at t p m) c.sample.key in
+    let place = key_place (lines_at t p m) c.sample.key in
     let there = place-there p t m c.sample.key placed.there in
     let kept = kept_as (length (instances_upto t h m)) (lines_at t p m) o c in
     let here : topic_at (view h m) kept ≡ t =

@@ -10,7 +10,7 @@ use Rattle.std.proofs.lemmas.List.Kept.{AllPairs-filter}
 use Rattle.std.proofs.lemmas.Option.{slice_get-map, slice_get_within}
 use Rattle.dur_view.specs.Persistent.{passes_at, place_among}
 use Rattle.dur_view.proofs.PersistentPlaces.{among-later, get-among}
-use Rattle.dur_view.proofs.MoreLists.{pairs-map, some-within}
+use Rattle.dur_view.proofs.MoreLists.{pairs-map}
 
 pub all-staying : {A B : Type 0} (P : B → Type 0) (Q : A → Type 0) (f : A → B) (t : A → Bool) (xs : List A) → ((x : A) → t x ≡ true → Q x → P (f x)) → All Q xs → All P (map f (filter t xs))
 all-staying P Q f t xs step all =

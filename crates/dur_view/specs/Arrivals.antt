@@ -1,5 +1,5 @@
 -- Where a change of a history comes from: its writer's sample, and the moment at which that arrived.
-use Rattle.std.specs.Prelude.{◌≡◌, ◌⊎◌, Option, Some, Any}
+use Rattle.std.specs.Prelude.{◌≡◌, ◌⊎◌, Some, Any}
 use Rattle.dur_base.specs.declared.entry.Entry.{Entry}
 use Rattle.dur_base.specs.declared.entry.Entry.TheVariants.{Took, Skip, Lost}
 use Rattle.dur_view.specs.declared.data.Held.{Held}

@@ -4,12 +4,12 @@ use Rattle.dur_qos.specs.Good.{IsLimit}
 use Rattle.dur_view.specs.Identities.{Key}
 use Rattle.dur_view.specs.declared.data.Instance.{Instance}
 use Rattle.dur_view.specs.declared.data.Kept.{Kept}
-use Rattle.dur_view.specs.declared.line.Line.{Line}
+use Rattle.dur_view.specs.declared.state.InstanceState.{InstanceState}
 use Rattle.dur_view.specs.declared.living.Living.{Living}
 use Rattle.dur_view.specs.Past.{Made, Past}
 use Rattle.dur_view.specs.Fates.{settings, registered, made, has_fate}
 use Rattle.dur_view.specs.Sound.{Each, Listed}
-use Rattle.dur_view.specs.View.{is_made_of, counted, place_of}
+use Rattle.dur_view.specs.View.{is_made_of, counted, key_place}
 
 abbrev pub made_living : Living → Made
 made_living c = record { ordinal = c.ordinal; writer = c.writer; number = c.number; arrived = c.arrived; sample = c.sample }
@@ -32,7 +32,7 @@ abbrev pub counted_in : Option ℕ → List Made → Key → ℕ → ℕ → ℕ
 counted_in depth all k ordinal before = counted depth (find (is_made_of k) all) ordinal before
 
 -- what a view says of an instance that is as the line says, beside these living changes
-abbrev pub line_from : ℕ → Option ℕ → List Made → Key → Line → Instance
+abbrev pub line_from : ℕ → Option ℕ → List Made → Key → InstanceState → Instance
 line_from t depth all k l =
     record {
       topic = t;
@@ -47,7 +47,7 @@ line_from t depth all k l =
 abbrev pub kept_one : ℕ → Option ℕ → List Instance → List Made → List Made → Made → Kept
 kept_one at depth lines all before c =
     record {
-      instance = at + place_of lines c.sample.key;
+      instance = at + key_place lines c.sample.key;
       ordinal = counted_in depth all c.sample.key c.ordinal (count_by (is_made_of c.sample.key) before + 1);
       writer = c.writer;
       number = c.number;

@@ -1,7 +1,7 @@
 //! The entitled changes of a topic, over a start and the events after it.
 
 ghost use Rattle.std.specs.Prelude.{◌≡◌, ◌<◌, length, IfOk};
-ghost use Rattle.dur_view.specs.Past.{Begin, ◌▹▹◌, part};
+ghost use Rattle.dur_view.specs.Past.{past_over};
 ghost use Rattle.dur_view.specs.Fates.{told};
 ghost use Rattle.dur_view.specs.Snapshot.{change_of, snap};
 ghost use Rattle.dur_view.specs.Living.{made_living};
@@ -38,7 +38,7 @@ pub fn entitled_over(
     now: Ticks,
 ) -> Result<List<Change>, OutOfMemory>
     requires { topic < length start.now.topics }
-    ensures { IfOk result (λ l. l ≡ snap (Begin (part start.now topic) ▹▹ events.now) now) }
+    ensures { IfOk result (λ l. l ≡ snap (past_over start.now topic events.now) now) }
 {
     let living = living_over(alloc, start, topic, events, now)?;
     let mut list = List::new(alloc);

@@ -2,11 +2,11 @@
 
 ghost use Rattle.std.specs.Prelude.{◌≡◌, ℕ, ◌+◌, ◌*◌, ◌^◌, ◌<◌, ◌≤◌, ◌||◌, nat_le, length, IfOk};
 ghost use Rattle.std.specs.Option.{option_copied};
-ghost use Rattle.dur_view.specs.Past.{Begin, ◌▹▹◌, part};
+ghost use Rattle.dur_view.specs.Past.{Begin, part, past_over};
 ghost use Rattle.dur_view.specs.Fates.{line_in, delay, is_long, is_over_by, reaches, has_fate};
 ghost use Rattle.dur_view.specs.Lines.{line_in_past};
 
-use crate::line::{Line, is_long};
+use crate::state::{InstanceState, is_long};
 use crate::{Instance, TopicEvent, View};
 use dur_base::{Guid, Key, List, Number, OutOfMemory, Sample, Ticks};
 use dur_qos::Topic;
@@ -33,12 +33,17 @@ fn places_of(alloc: Global, places: &[u32]) -> Result<List<usize>, OutOfMemory>
     Ok(list)
 }
 
-fn first_line(alloc: Global, start: &View, topic: u32, key: Key) -> Result<Line, OutOfMemory>
+fn first_line(
+    alloc: Global,
+    start: &View,
+    topic: u32,
+    key: Key,
+) -> Result<InstanceState, OutOfMemory>
     ensures line { IfOk result (λ l. l ≡ line_in_past (Begin (part start.now topic)) key) }
     ensures bound { IfOk result (λ l. l.changes < 2 ^ 64) }
 {
     match line_at(start, topic, key) {
-        None => Ok(Line {
+        None => Ok(InstanceState {
             changes: 0,
             disposed: false,
             registered: List::new(alloc),
@@ -47,7 +52,7 @@ fn first_line(alloc: Global, start: &View, topic: u32, key: Key) -> Result<Line,
         }),
         Some(line) => {
             let registered = places_of(alloc, line.registered.as_slice())?;
-            Ok(Line {
+            Ok(InstanceState {
                 changes: line.changes as u128,
                 disposed: line.disposed,
                 registered,
@@ -73,9 +78,9 @@ pub fn line_over(
     topic: u32,
     events: &[TopicEvent],
     key: Key,
-) -> Result<Line, OutOfMemory>
+) -> Result<InstanceState, OutOfMemory>
     requires { topic < length start.now.topics }
-    ensures line { IfOk result (λ l. l ≡ line_in_past (Begin (part start.now topic) ▹▹ events.now) key) }
+    ensures line { IfOk result (λ l. l ≡ line_in_past (past_over start.now topic events.now) key) }
     ensures bound { IfOk result (λ l. l.changes < 2 ^ 64 + length events.now) }
 {
     let longest = settings_of(start, topic).delay as u64 * 4_294_967_296;
@@ -104,7 +109,7 @@ fn is_deep(depth: Option<u32>, later: u128) -> bool
     }
 }
 
-fn is_purged_by(line: &Line, ordinal: u128, longest: u64, now: Ticks) -> bool
+fn is_purged_by(line: &InstanceState, ordinal: u128, longest: u64, now: Ticks) -> bool
     ensures { result ≡ (nat_le ordinal line.now.purged || is_long line.now.quiet longest now) }
 {
     ordinal <= line.purged || is_long(line.quiet, longest, now)
@@ -136,7 +141,7 @@ pub fn is_gone(
     change: &Placed,
 ) -> Result<bool, OutOfMemory>
     requires { topic < length start.now.topics }
-    ensures { IfOk result (λ b. b ≡ has_fate (Begin (part start.now topic) ▹▹ events.now) now record { ordinal = change.now.ordinal; writer = change.now.writer; number = change.now.number; arrived = change.now.arrived; sample = change.now.sample.now }) }
+    ensures { IfOk result (λ b. b ≡ has_fate (past_over start.now topic events.now) now record { ordinal = change.now.ordinal; writer = change.now.writer; number = change.now.number; arrived = change.now.arrived; sample = change.now.sample.now }) }
 {
     let settings = settings_of(start, topic);
     let longest = settings.delay as u64 * 4_294_967_296;

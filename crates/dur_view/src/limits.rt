@@ -3,15 +3,15 @@
 ghost use Rattle.std.specs.Prelude.{◌≡◌, ℕ, ◌<◌, ◌==◌, if◌then◌else◌, length, map, sum_by, IfOk};
 ghost use Rattle.std.specs.List.{list_any};
 ghost use Rattle.dur_view.specs.History.{Start, ◌▸◌, ◌+>◌, held};
-ghost use Rattle.dur_view.specs.Past.{Begin, ◌▹▹◌, part};
+ghost use Rattle.dur_view.specs.Past.{past_over};
 ghost use Rattle.dur_view.specs.Fates.{is_purged, existing, told};
 ghost use Rattle.dur_view.specs.Living.{all_made};
 ghost use Rattle.dur_view.specs.Refused.{is_over, of_key, passed, limit_of, refused};
 
 use crate::effects::{add_entry, effects_over, held_after, held_over, topic_of};
 use crate::fates::{line_over, settings_of};
-use crate::line::is_long;
 use crate::living::{Living, living_over};
+use crate::state::is_long;
 use crate::view_keys::keys_over;
 use crate::view_lines::count_of;
 use crate::{KeptWriter, Limit, TopicEvent, View};
@@ -37,7 +37,7 @@ fn is_purged(
     now: Ticks,
 ) -> Result<bool, OutOfMemory>
     requires { topic < length start.now.topics }
-    ensures { IfOk result (λ b. b ≡ is_purged (Begin (part start.now topic) ▹▹ events.now) key now) }
+    ensures { IfOk result (λ b. b ≡ is_purged (past_over start.now topic events.now) key now) }
 {
     let settings = settings_of(start, topic);
     let longest = settings.delay as u64 * 4_294_967_296;
@@ -54,7 +54,7 @@ fn existing_over(
     now: Ticks,
 ) -> Result<List<Key>, OutOfMemory>
     requires { topic < length start.now.topics }
-    ensures { IfOk result (λ l. l ≡ existing (Begin (part start.now topic) ▹▹ events.now) now) }
+    ensures { IfOk result (λ l. l ≡ existing (past_over start.now topic events.now) now) }
 {
     let keys = keys_over(alloc, start, topic, events)?;
     let mut list = List::new(alloc);

@@ -1,12 +1,12 @@
 //! The changes of a topic that have no fate, over a start and the events after it.
 
 ghost use Rattle.std.specs.Prelude.{◌≡◌, ◌<◌, ◌++◌, [], ◌∷◌, map, length, OnOk, IfOk};
-ghost use Rattle.dur_view.specs.Past.{Begin, ◌▹▹◌, part, is_kept_of};
+ghost use Rattle.dur_view.specs.Past.{part, is_kept_of, past_over};
 ghost use Rattle.dur_view.specs.Fates.{made_by, living};
 ghost use Rattle.dur_view.specs.Living.{made_living, all_made, living_of};
 
 use crate::fates::{Placed, is_gone, line_over};
-use crate::line::changes;
+use crate::state::changes;
 use crate::{Kept, TopicEvent, View};
 use dur_base::{Guid, List, Number, OutOfMemory, Sample, Ticks};
 use std::alloc::Global;
@@ -32,7 +32,7 @@ fn add(
     change: &Placed,
 ) -> Result<(), OutOfMemory>
     requires { topic < length start.now.topics }
-    ensures { OnOk result (all_made list.new ≡ all_made list.old ++ living_of (Begin (part start.now topic) ▹▹ events.now) now (record { ordinal = change.now.ordinal; writer = change.now.writer; number = change.now.number; arrived = change.now.arrived; sample = change.now.sample.now } ∷ [])) }
+    ensures { OnOk result (all_made list.new ≡ all_made list.old ++ living_of (past_over start.now topic events.now) now (record { ordinal = change.now.ordinal; writer = change.now.writer; number = change.now.number; arrived = change.now.arrived; sample = change.now.sample.now } ∷ [])) }
 {
     if is_gone(alloc, start, topic, events, now, change)? {
         return Ok(());
@@ -65,7 +65,7 @@ fn of_start(
     now: Ticks,
 ) -> Result<List<Living>, OutOfMemory>
     requires { topic < length start.now.topics }
-    ensures { IfOk result (λ l. all_made l ≡ living_of (Begin (part start.now topic) ▹▹ events.now) now (part start.now topic).kept) }
+    ensures { IfOk result (λ l. all_made l ≡ living_of (past_over start.now topic events.now) now (part start.now topic).kept) }
 {
     let mut list = List::new(alloc);
     for kept in start.kept.as_slice() {
@@ -95,7 +95,7 @@ fn add_event(
     event: &TopicEvent,
 ) -> Result<(), OutOfMemory>
     requires { topic < length start.now.topics }
-    ensures { OnOk result (all_made list.new ≡ all_made list.old ++ living_of (Begin (part start.now topic) ▹▹ events.now) now (made_by (Begin (part start.now topic) ▹▹ before.now) event.now)) }
+    ensures { OnOk result (all_made list.new ≡ all_made list.old ++ living_of (past_over start.now topic events.now) now (made_by (past_over start.now topic before.now) event.now)) }
 {
     if let TopicEvent::Effect {
         writer,
@@ -129,7 +129,7 @@ pub fn living_over(
     now: Ticks,
 ) -> Result<List<Living>, OutOfMemory>
     requires { topic < length start.now.topics }
-    ensures { IfOk result (λ l. all_made l ≡ living (Begin (part start.now topic) ▹▹ events.now) now) }
+    ensures { IfOk result (λ l. all_made l ≡ living (past_over start.now topic events.now) now) }
 {
     let mut list = of_start(alloc, start, topic, events, now)?;
     for (at, event) in events.iter().enumerate() {

@@ -1,7 +1,7 @@
 //! What a view says of a topic's kept changes.
 
 ghost use Rattle.std.specs.Prelude.{◌≡◌, ◌<◌, ◌≤◌, ◌+◌, ◌^◌, ◌++◌, [], count_by, length, OnOk, IfOk};
-ghost use Rattle.dur_view.specs.View.{is_made_of, place_of};
+ghost use Rattle.dur_view.specs.View.{is_made_of, key_place};
 ghost use Rattle.dur_view.specs.Living.{made_living, all_made, counted_in, kept_one, kept_with, AreCounted};
 
 use crate::living::Living;
@@ -11,7 +11,7 @@ use dur_base::{Key, List, OutOfMemory};
 
 // The place of the key's line.
 fn place_of(lines: &[Instance], key: Key) -> usize
-    ensures place { result ≡ place_of lines.now key }
+    ensures place { result ≡ key_place lines.now key }
     ensures bound { result ≤ length lines.now }
 {
     let mut place = 0;

@@ -4,10 +4,10 @@ ghost use Rattle.std.specs.Prelude.{◌≡◌, ◌≢◌, ℕ, ◌<◌, ◌≤�
 ghost use Rattle.std.specs.declared.cmp.Ordering.TheVariants.{Greater};
 ghost use Rattle.dur_view.specs.Identities.{Key as Octets};
 ghost use Rattle.dur_view.specs.Words.{is_key};
-ghost use Rattle.dur_view.specs.Past.{Begin, ◌▹▹◌, part};
+ghost use Rattle.dur_view.specs.Past.{Begin, part, past_over};
 ghost use Rattle.dur_view.specs.Fates.{key_cmp, with_key, keys_by, keys};
 
-use crate::line::changes;
+use crate::state::changes;
 use crate::{TopicEvent, View};
 use dur_base::{Key, OutOfMemory};
 use std::alloc::Global;
@@ -87,7 +87,7 @@ pub fn keys_over(
     topic: u32,
     events: &[TopicEvent],
 ) -> Result<Vec<Key>, OutOfMemory>
-    ensures { IfOk result (λ v. v.items ≡ keys (Begin (part start.now topic) ▹▹ events.now)) }
+    ensures { IfOk result (λ v. v.items ≡ keys (past_over start.now topic events.now)) }
 {
     let mut keys = first_keys(alloc, start, topic)?;
     for event in events {

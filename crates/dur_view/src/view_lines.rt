@@ -1,14 +1,14 @@
 //! What a view says of a topic's instances.
 
 ghost use Rattle.std.specs.Prelude.{◌≡◌, ◌<◌, ◌≤◌, ◌+◌, ◌^◌, ◌++◌, [], ◌∷◌, All, if◌then◌else◌, find, count_by, option_map, length, OnOk, IfOk};
-ghost use Rattle.dur_view.specs.Past.{Begin, ◌▹▹◌, part};
+ghost use Rattle.dur_view.specs.Past.{past_over};
 ghost use Rattle.dur_view.specs.Fates.{is_purged, living};
 ghost use Rattle.dur_view.specs.View.{is_made_of, counted, line_of, lines_at};
 ghost use Rattle.dur_view.specs.Living.{all_made, counted_from, counted_in, line_from, IsInRange};
 
 use crate::fates::{line_over, settings_of};
-use crate::line::{Line, is_long};
 use crate::living::Living;
+use crate::state::{InstanceState, is_long};
 use crate::view_keys::keys_over;
 use crate::{Instance, TopicEvent, View};
 use dur_base::{Key, List, OutOfMemory, Ticks};
@@ -76,7 +76,7 @@ fn instance_of(
     depth: Option<u32>,
     changes: &[Living],
     key: Key,
-    line: &Line,
+    line: &InstanceState,
 ) -> Result<Instance, OutOfMemory>
     requires places { All (λ r. r < 2 ^ 32) line.now.registered }
     requires count { counted_in depth (all_made changes.now) key line.now.changes (count_by (is_made_of key) (all_made changes.now)) < 2 ^ 64 }
@@ -107,10 +107,10 @@ fn add_line(
     key: Key,
 ) -> Result<(), OutOfMemory>
     requires there { topic < length start.now.topics }
-    requires range { IsInRange (Begin (part start.now topic) ▹▹ events.now) }
-    requires changes { all_made changes.now ≡ living (Begin (part start.now topic) ▹▹ events.now) now }
+    requires range { IsInRange (past_over start.now topic events.now) }
+    requires changes { all_made changes.now ≡ living (past_over start.now topic events.now) now }
     requires few { length changes.now < 2 ^ 64 }
-    ensures { OnOk result (list.new ≡ list.old ++ (if is_purged (Begin (part start.now topic) ▹▹ events.now) key now then [] else line_of (Begin (part start.now topic) ▹▹ events.now) topic now key ∷ [])) }
+    ensures { OnOk result (list.new ≡ list.old ++ (if is_purged (past_over start.now topic events.now) key now then [] else line_of (past_over start.now topic events.now) topic now key ∷ [])) }
 {
     let settings = settings_of(start, topic);
     let longest = settings.delay as u64 * 4_294_967_296;
@@ -132,10 +132,10 @@ pub fn add_lines(
     changes: &[Living],
 ) -> Result<(), OutOfMemory>
     requires there { topic < length start.now.topics }
-    requires range { IsInRange (Begin (part start.now topic) ▹▹ events.now) }
-    requires changes { all_made changes.now ≡ living (Begin (part start.now topic) ▹▹ events.now) now }
+    requires range { IsInRange (past_over start.now topic events.now) }
+    requires changes { all_made changes.now ≡ living (past_over start.now topic events.now) now }
     requires few { length changes.now < 2 ^ 64 }
-    ensures { OnOk result (list.new ≡ list.old ++ lines_at topic (Begin (part start.now topic) ▹▹ events.now) now) }
+    ensures { OnOk result (list.new ≡ list.old ++ lines_at topic (past_over start.now topic events.now) now) }
 {
     let keys = keys_over(alloc, start, topic, events)?;
     for key in keys.as_slice() {

@@ -1,5 +1,5 @@
 use Rattle.std.proofs.Common.{◌≡◌, ◌*◌, take, sym, ap, ◌∙◌, arith}
-use Rattle.dur_view.specs.declared.line.Line.{Line}
+use Rattle.dur_view.specs.declared.state.InstanceState.{InstanceState}
 use Rattle.dur_view.specs.Past.{Begin, ◌▹▹◌, part}
 use Rattle.dur_view.specs.Fates.{delay}
 use Rattle.dur_view.specs.Lines.{line_in_past, line_after_event}
@@ -16,8 +16,8 @@ loop-event-preserved c =
     let is : delay before ≡ longest = delay-extend start (take c.loop-event.event-index c.args.events.now) ∙ ap (λ t. t.delay * 4294967296) (sym c.settings_of.ensures) in
     let after = c.in_ok-line-2.ensures in
     let grows = changes-after event c.args.key longest c.loop-event.line in
-    let counts = ap (λ (l : Line). l.changes) after in
+    let counts = ap (λ (l : InstanceState). l.changes) after in
     let bound = c.loop-event.invariant.1 in (
-      after ∙ ap (λ (l : Line). line_after_event event c.args.key longest l) c.loop-event.invariant.0 ∙ sym (line-step before event c.args.key longest is) ∙ ap (λ p. line_in_past p c.args.key) (sym more),
+      after ∙ ap (λ (l : InstanceState). line_after_event event c.args.key longest l) c.loop-event.invariant.0 ∙ sym (line-step before event c.args.key longest is) ∙ ap (λ p. line_in_past p c.args.key) (sym more),
       omega arith,
     )
