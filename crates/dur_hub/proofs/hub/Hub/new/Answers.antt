@@ -1,0 +1,14 @@
+use Rattle.std.proofs.Common.{◌∙◌, refl, ap}
+use Rattle.dur_view.specs.Full.{full}
+use Rattle.dur_view.specs.History.{Start}
+use Rattle.dur_hub.proofs.Opens.{stands_opened}
+use Rattle.dur_hub.proofs.hub.Hub.new.Goals as goal
+
+pub returns : goal.returns
+returns c =
+    let v = full c.args.plan c.args.view in
+    let keeps = c.in_ok-store.ensures in
+    stands_opened c.args.plan c.args.view c.args.working _ c.requires refl (c.new.ensures v keeps) (λ stand. c.in_ok-lines.ensures v keeps stand) (c.in_ok-places.ensures (Start v) keeps) c.in_ok-leaving.ensures refl refl c.new-2.ensures.items refl refl refl refl
+
+pub places-requires : goal.places-requires
+places-requires c = (Start (full c.args.plan c.args.view), c.in_ok-store.ensures, c.requires.whole.topics.count)
