@@ -87,24 +87,24 @@ with_queue hub q = record hub { ledger = record hub.ledger { queue = q } }
 taken_at : (old : Hub) (q : Queue) (r : Run) (n : ℕ) (e : Event) (b : Batch) → HubAt old r → LegalAt r e → after r e ≡ with_taken r b
     → Queued q (r.taken + length b.entries) r.durable (stored r.history) → HubAt (with_queue old q) (after r e)
 taken_at old q r n e b here legal is queued = subst (λ k. HubAt (with_queue old q) k) (sym is) (
-  record {
-    at = record {
-      ledger = record { keeps = here.at.ledger.keeps; queued = queued; entries = here.at.ledger.entries };
-      lines = here.at.lines;
-      good = subst (λ k. IsGoodRun k) is (good_call r e here.at.good legal);
-    };
-    plan = here.plan;
-    places = here.places;
-    moment = here.moment;
-    begun = here.begun;
-    given = here.given;
-    leaving = here.leaving;
-    acks = here.acks;
-    refused = here.refused;
-    working = here.working;
-    stopped = here.stopped;
-  }
-)
+    record {
+      at = record {
+        ledger = record { keeps = here.at.ledger.keeps; queued = queued; entries = here.at.ledger.entries };
+        lines = here.at.lines;
+        good = subst (λ k. IsGoodRun k) is (good_call r e here.at.good legal);
+      };
+      plan = here.plan;
+      places = here.places;
+      moment = here.moment;
+      begun = here.begun;
+      given = here.given;
+      leaving = here.leaving;
+      acks = here.acks;
+      refused = here.refused;
+      working = here.working;
+      stopped = here.stopped;
+    }
+    )
 
 pub takes : (old : Hub) (q : Queue) (b : Batch)
     → ((t d : ℕ) (es : List Entry) → Queued old.ledger.queue t d es → b.from ≡ t % 2 ^ 64)
@@ -137,7 +137,7 @@ takes_all old q b v taken viewed = one_call old (with_queue old q) (call.TakeVie
       entries = all.entries ∙ sym (take_all (length es) (drop r.taken es) (omega (arith, length-drop r.taken es)));
     } in
     let seen : v ≡ view (persistent r.history) r.moment =
-        viewed r.history here.at.ledger.keeps ∙ ap (view (persistent r.history)) here.moment in
+    viewed r.history here.at.ledger.keeps ∙ ap (view (persistent r.history)) here.moment in
     ((batch, seen), taken_at old q r (length es) (call.TakeView (Ok (b, v))) b here (batch, seen) refl all.after))
 
 pub takes_none : (hub : Hub) (e : OutOfMemory) → Adds hub (call.TakeView (Err e)) hub

@@ -90,9 +90,9 @@ module _ (plan : Plan) (topics : List Topic) (v : View) where
   added : (ws : List WriterLine) (w : WriterLine) → Differ ws → IsOne w ws → stands v w.guid ≡ false → writer_line (map (new_writer plan topics) (filter (λ x. not (stands v x.guid)) ws)) w.guid ≡ Some (new_writer plan topics w)
   added [] w apart has no1 = absurd has
   added (x ∷ ws) w apart (inl is) no1 = subst (λ (y : WriterLine). writer_line (map (new_writer plan topics) (filter (λ x. not (stands v x.guid)) (y ∷ ws))) w.guid ≡ Some (new_writer plan topics w)) (sym is) (
-    ap (λ b. writer_line (map (new_writer plan topics) (cond b (w ∷ filter (λ x. not (stands v x.guid)) ws) (filter (λ x. not (stands v x.guid)) ws))) w.guid) (ap not no1)
-    ∙ ap (λ b. cond b (Some (new_writer plan topics w)) (writer_line (map (new_writer plan topics) (filter (λ x. not (stands v x.guid)) ws)) w.guid)) (same_true w.guid w.guid refl)
-  )
+      ap (λ b. writer_line (map (new_writer plan topics) (cond b (w ∷ filter (λ x. not (stands v x.guid)) ws) (filter (λ x. not (stands v x.guid)) ws))) w.guid) (ap not no1)
+      ∙ ap (λ b. cond b (Some (new_writer plan topics w)) (writer_line (map (new_writer plan topics) (filter (λ x. not (stands v x.guid)) ws)) w.guid)) (same_true w.guid w.guid refl)
+      )
   added (x ∷ ws) w apart (inr has) no1 = added_by (not (stands v x.guid)) (is_same x.guid w.guid) refl (added ws w apart.1 has no1) where
     out_of : (ws : List WriterLine) → Lacks x.guid ws → IsOne w ws → x.guid ≡ w.guid → ⊥
     out_of [] no2 one e = one
@@ -137,7 +137,7 @@ module _ (plan : Plan) (v : View) (may : MayOpen plan v) where
       }
   stands_by w None lt one agrees is =
       let there : writer_line (full plan v).writers w.guid ≡ Some (new_writer plan (full plan v).topics w) =
-          line_back v.writers (more_writers plan (full plan v).topics v) w.guid is ∙ added plan (full plan v).topics v plan.writers w (differ_plan plan may.plan) one (ap is_some is) in
+      line_back v.writers (more_writers plan (full plan v).topics v) w.guid is ∙ added plan (full plan v).topics v plan.writers w (differ_plan plan may.plan) one (ap is_some is) in
       let x = get_some plan.topics w.topic lt in
       record {
         stands = ap is_some there;

@@ -149,9 +149,9 @@ left_rest plan h m [] rest apart there is = is
 left_rest plan h m (g ∷ gs) rest apart there is =
     left_rest plan (h ▸ Lost m g) m gs rest apart there.1
     (but_first (left_in plan h) (left_in plan (h ▸ Lost m g)) g
-        (λ w ne. ap (λ b. not (has_writer w.guid plan.writers) && b) (there_other h m g w.guid ne there.0))
-        (λ w e. ap (λ b. not (has_writer w.guid plan.writers) && b) (ap (is_there (h ▸ Lost m g)) e ∙ there_self h m g) ∙ and_false (not (has_writer w.guid plan.writers)))
-        (start h).writers (gs ++ rest) apart is)
+    (λ w ne. ap (λ b. not (has_writer w.guid plan.writers) && b) (there_other h m g w.guid ne there.0))
+    (λ w e. ap (λ b. not (has_writer w.guid plan.writers) && b) (ap (is_there (h ▸ Lost m g)) e ∙ there_self h m g) ∙ and_false (not (has_writer w.guid plan.writers)))
+    (start h).writers (gs ++ rest) apart is)
 
 pub sound_start : (h : History) → IsHistory h → IsSound (start h)
 sound_start (Start v) so = so
@@ -169,8 +169,8 @@ leaving_after r n leaving first good is = λ no1.
     let h' : History = r.history +> map (Lost r.moment) (take n gs) in
     let kept : start h' ≡ v = start_extend r.history (map (Lost r.moment) (take n gs)) in
     let rest : map guid_in (filter (left_in r.plan h') v.writers) ≡ drop n gs =
-        left_rest r.plan r.history r.moment (take n gs) (drop n gs) (differ_all v.writers (sound-passes v (sound_start r.history good.history)).differ)
-            (take_stand v n gs (leavers_stand r good.writers)) (sym (leavers_first r first) ∙ sym (take-append-drop n gs)) in
+    left_rest r.plan r.history r.moment (take n gs) (drop n gs) (differ_all v.writers (sound-passes v (sound_start r.history good.history)).differ)
+    (take_stand v n gs (leavers_stand r good.writers)) (sym (leavers_first r first) ∙ sym (take-append-drop n gs)) in
     let those : leavers (after_lease r n) ≡ drop n gs = leavers_first (after_lease r n) no1 ∙ ap (λ (x : View). map guid_in (filter (left_in r.plan h') x.writers)) kept ∙ rest in
     ap (drop n) is ∙ drop-map (leaver_of v) n gs ∙ ap (map (leaver_of v)) (sym those) ∙ ap (λ x. map (leaver_of x) (leavers (after_lease r n))) (sym kept)
 

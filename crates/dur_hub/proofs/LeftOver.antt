@@ -79,8 +79,8 @@ registered_is : (v : View) (i : ℕ) (w : KeptWriter) → PassesTests v → slic
 registered_is v i w sound at =
     by_lines (λ o. list_any (λ r. r == i) (unwrap_or (option_map (λ (l : Instance). l.registered) o) [])) (part v w.topic).lines (sound_parts v sound w.topic).keys
     ∙ in_topic i w.topic (λ l r. unwrap_or (option_map (λ (x : KeptWriter). x.topic == l.topic) (slice_get v.writers r)) false) v.instances sound.registered_here (λ l yes1.
-        let e : (w.topic == l.topic) ≡ true = ap (λ o. unwrap_or (option_map (λ (x : KeptWriter). x.topic == l.topic) o) false) (sym at) ∙ yes1 in
-        eq-eqb l.topic w.topic (sym (eqb-true w.topic l.topic e)))
+    let e : (w.topic == l.topic) ≡ true = ap (λ o. unwrap_or (option_map (λ (x : KeptWriter). x.topic == l.topic) o) false) (sym at) ∙ yes1 in
+    eq-eqb l.topic w.topic (sym (eqb-true w.topic l.topic e)))
 
 -- ---- the writers of a view, from a place on
 
@@ -158,7 +158,7 @@ module _ (plan : Plan) (v : View) (working : ℕ) (sound : PassesTests (full pla
       let here : slice_get fv.writers (length front) ≡ Some w = ap (λ l. slice_get l (length front)) is ∙ get_mid front ws w in
       let held_is : held (Start fv) w.guid ≡ w.held = ap (λ o. unwrap_or (option_map (λ (l : KeptWriter). l.held) o) []) line in
       let reg : is_registered (Start fv) (topic_of fv w.guid) (place_in fv.writers w.guid) ≡ is_registered_in v (length front) =
-          ap (λ t. is_registered (Start fv) t (place_in fv.writers w.guid)) topic ∙ ap (is_registered (Start fv) w.topic) place ∙ registered_is fv (length front) w sound here in
+      ap (λ t. is_registered (Start fv) t (place_in fv.writers w.guid)) topic ∙ ap (is_registered (Start fv) w.topic) place ∙ registered_is fv (length front) w sound here in
       ap (λ b. not (has_writer w.guid plan.writers) && (b || not (is_empty (held (Start fv) w.guid)))) reg
       ∙ ap (λ l. not (has_writer w.guid plan.writers) && (is_registered_in v (length front) || not (is_empty l))) held_is
 
@@ -180,7 +180,7 @@ module _ (plan : Plan) (v : View) (working : ℕ) (sound : PassesTests (full pla
       let next : v.writers ≡ (front ++ w ∷ []) ++ ws = is ∙ sym (append_assoc front (w ∷ []) ws) in
       let rest = left_own (front ++ w ∷ []) ws (i + 1) (omega (arith, at, length-append front (w ∷ []))) next both.1 in
       let test : is_left_behind at_start w ≡ (not (has_writer w.guid plan.writers) && (is_registered_in v i || not (is_empty w.held))) =
-          own_left front (ws ++ more_ws) w whole ∙ ap (λ k. not (has_writer w.guid plan.writers) && (is_registered_in v k || not (is_empty w.held))) (sym at) in
+      own_left front (ws ++ more_ws) w whole ∙ ap (λ k. not (has_writer w.guid plan.writers) && (is_registered_in v k || not (is_empty w.held))) (sym at) in
       left_by (not (has_writer w.guid plan.writers) && (is_registered_in v i || not (is_empty w.held))) test rest (leaver_is front (ws ++ more_ws) w whole (ltb-true w.topic (length v.topics) both.0)) where
         left_by : (b : Bool) → is_left_behind at_start w ≡ b → left_from plan v (i + 1) ws ≡ map (leaver_of (full plan v)) (map guid_in (filter (is_left_behind at_start) ws))
             → leaver_of (full plan v) w.guid ≡ record { guid = w.guid; stored = passes_at is_persistent v.topics w.topic }

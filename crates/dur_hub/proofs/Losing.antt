@@ -125,7 +125,7 @@ step_first l ls leaving m begun done l' ls' leaving' no1 so hear = record {
       let within : r.durable ≤ length (stored r.history) = omega (arith, st.good.durable, st.good.taken) in
       let es : List Entry = map (Lost r.moment) (take n gs) in
       let fit = lines_same r.plan r.history (gone r n) r.durable ls' (map (heard_now r.moment) r.writers) record { begun = start_extend r.history es; kept = durable_extend r.history es r.durable within }
-          (subst (λ k. LinesFit r.plan r.history r.durable ls' (map (heard_now k) r.writers)) (sym is) (hear r.plan r.history r.durable r.writers st.lines)) in (
+      (subst (λ k. LinesFit r.plan r.history r.durable ls' (map (heard_now k) r.writers)) (sym is) (hear r.plan r.history r.durable r.writers st.lines)) in (
         subst (AreLost done n) (ap length those ∙ length-map gs (leaver_of (start r.history))) so.lost,
         record {
           ledger = subst (λ k. LedgerAt l' (r.history +> map (Lost k) (take n gs)) r.taken r.durable) (sym is) at';

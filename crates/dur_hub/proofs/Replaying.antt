@@ -68,41 +68,41 @@ wants_memory old mid new m g done is lease same = (
 -- a hub with one more reader to whom a snapshot was given
 pub given_one : (mid new : Hub) (r : Run) (g : Guid) → new ≡ record mid { given = new.given } → new.given.items ≡ mid.given.items ++ g ∷ [] → HubAt mid r → HubAt new (record r { given = r.given ++ g ∷ [] })
 given_one mid new r g is given here = subst (λ k. HubAt k (record r { given = r.given ++ g ∷ [] })) (sym is) (
-  record {
-    at = record {
-      ledger = here.at.ledger;
-      lines = here.at.lines;
-      good = good_given r (r.given ++ g ∷ []) here.at.good;
-    };
-    plan = here.plan;
-    places = here.places;
-    moment = here.moment;
-    begun = here.begun;
-    given = given ∙ ap (λ l. l ++ g ∷ []) here.given;
-    leaving = here.leaving;
-    acks = here.acks;
-    refused = here.refused;
-    working = here.working;
-    stopped = here.stopped;
-  }
-)
+    record {
+      at = record {
+        ledger = here.at.ledger;
+        lines = here.at.lines;
+        good = good_given r (r.given ++ g ∷ []) here.at.good;
+      };
+      plan = here.plan;
+      places = here.places;
+      moment = here.moment;
+      begun = here.begun;
+      given = given ∙ ap (λ l. l ++ g ∷ []) here.given;
+      leaving = here.leaving;
+      acks = here.acks;
+      refused = here.refused;
+      working = here.working;
+      stopped = here.stopped;
+    }
+    )
 
 pub same_given : (mid new : Hub) (r : Run) → new ≡ record mid { given = new.given } → new.given.items ≡ mid.given.items → HubAt mid r → HubAt new r
 same_given mid new r is given here = subst (λ k. HubAt k r) (sym is) (
-  record {
-    at = record { ledger = here.at.ledger; lines = here.at.lines; good = here.at.good };
-    plan = here.plan;
-    places = here.places;
-    moment = here.moment;
-    begun = here.begun;
-    given = given ∙ here.given;
-    leaving = here.leaving;
-    acks = here.acks;
-    refused = here.refused;
-    working = here.working;
-    stopped = here.stopped;
-  }
-)
+    record {
+      at = record { ledger = here.at.ledger; lines = here.at.lines; good = here.at.good };
+      plan = here.plan;
+      places = here.places;
+      moment = here.moment;
+      begun = here.begun;
+      given = given ∙ here.given;
+      leaving = here.leaving;
+      acks = here.acks;
+      refused = here.refused;
+      working = here.working;
+      stopped = here.stopped;
+    }
+    )
 
 -- one that is given
 pub replays : (old mid new : Hub) (m : ℕ) (g : Guid) (topic : ℕ) (s : Snapshot) → MayReplay old.plan old.given.items g (Ok topic) → Begins old m true mid

@@ -5,7 +5,7 @@ ghost use Rattle.dur_hub.specs.declared.event.Event.{Event};
 ghost use Rattle.dur_hub.specs.declared.event.Event.TheVariants.{Take, TakeView, Mark};
 ghost use Rattle.dur_hub.specs.Runs.{Run};
 ghost use Rattle.dur_hub.specs.Legal.{LegalAt, run_after};
-ghost use Rattle.dur_hub.specs.Hubs.{Stands, Adds};
+ghost use Rattle.dur_hub.specs.Hubs.{Stands, StandsForSome, Adds};
 
 use crate::hub::Hub;
 use crate::marking::pass_all;
@@ -23,9 +23,10 @@ impl Hub {
     }
 
     /// Hands out all entries of persistent topics that were not handed out, and adds the view of the persistent part after
-    /// them, at the last moment. On want of memory nothing is handed out.
+    /// them, at the last moment. On want of memory nothing is handed out. Condition: the hub stands for some list of calls,
+    /// as each does that `new` made.
     pub fn take_view(&mut self, alloc: Global) -> Result<(Batch, View), OutOfMemory>
-        requires { (start : Run) × (log : List Event) × Stands start log self.old }
+        requires { StandsForSome self.old }
         ensures { Adds self.old (TakeView result) self.new }
     {
         let view = match self.ledger.store.view(alloc, self.moment) {

@@ -10,8 +10,8 @@ ghost use Rattle.rtps_message.specs.Facts.{AreGood};
 
 use crate::Received;
 use crate::lease::lease_step;
-use crate::left_behind::{Leaver, left_behind};
 use crate::ledger::Ledger;
+use crate::left_behind::{Leaver, left_behind};
 use crate::line::{Line, lines_of};
 use crate::notes::Notes;
 use crate::receiving::hear_all;
@@ -148,13 +148,7 @@ impl Hub {
         requires { AreGood facts }
         ensures { AnswersFacts self.old facts result self.new }
     {
-        let reply = answer_facts(
-            &mut self.ledger,
-            &mut self.lines,
-            alloc,
-            self.moment,
-            facts,
-        );
+        let reply = answer_facts(&mut self.ledger, &mut self.lines, alloc, self.moment, facts);
         self.acks = self.acks.wrapping_add(reply.acks.len() as u64);
         self.refused = self.refused.wrapping_add(reply.refused.len() as u64);
         reply

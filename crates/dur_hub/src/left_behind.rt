@@ -34,7 +34,13 @@ fn lose_one(ledger: &mut Ledger, leaver: Leaver, moment: Ticks) -> bool
         → LedgerAt ledger.new h t d }
 {
     let Leaver { guid, stored } = leaver;
-    match ledger.admit(Entry::Lost { moment, writer: guid }, stored) {
+    match ledger.admit(
+        Entry::Lost {
+            moment,
+            writer: guid,
+        },
+        stored,
+    ) {
         Ok(()) => true,
         Err(_) => false,
     }
@@ -119,11 +125,7 @@ fn is_set(flags: &[bool], place: usize) -> bool
 }
 
 /// The kept writers of a view that are left behind.
-pub fn left_behind(
-    alloc: Global,
-    plan: &Plan,
-    view: &View,
-) -> Result<VecDeque<Leaver>, OutOfMemory>
+pub fn left_behind(alloc: Global, plan: &Plan, view: &View) -> Result<VecDeque<Leaver>, OutOfMemory>
     ensures { IfOk result (λ leaving. leaving.items ≡ left_from plan.now view.now 0 view.now.writers) }
 {
     let flags = registered_writers(alloc, view)?;

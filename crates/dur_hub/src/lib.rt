@@ -26,8 +26,9 @@ mod workers;
 pub use event::{End, Event, Step};
 pub use hub::Hub;
 pub use law::{
-    acknowledged_is_durable, admitted_entries_follow, hubs_open_over_blank_views, nobody_works_after_all_left,
-    receives_have_one_outcome, runs_count_their_answers, who_leaves_last_works_no_more,
+    acknowledged_is_durable, admitted_entries_follow, hubs_open_over_blank_views,
+    nobody_works_after_all_left, receives_have_one_outcome, runs_count_their_answers,
+    who_leaves_last_works_no_more,
 };
 pub use reply::{Ack, Counts, HubState, Received, Refusal, SnapFault};
 

@@ -57,12 +57,7 @@ impl Hub {
 
     /// The entitled changes of the topic at a place of the plan, at a moment or at the last one, whichever is later. It
     /// counts as no replay.
-    pub fn listing(
-        &self,
-        alloc: Global,
-        topic: u32,
-        moment: Ticks,
-    ) -> Result<Snapshot, OutOfMemory>
+    pub fn listing(&self, alloc: Global, topic: u32, moment: Ticks) -> Result<Snapshot, OutOfMemory>
         ensures { IfOk result (λ s. (start : Run) (log : List Event) → Stands start log self.now
             → topic < length (run_after start log).plan.topics → s.changes ≡ listed (run_after start log) topic moment) }
     {

@@ -1,17 +1,16 @@
 //! Datagrams in hard orders, with what a hub makes of them worked out by hand.
 
-ghost use Rattle.std.specs.Prelude.{◌≡◌, IfOk, IfSome};
+ghost use Rattle.std.specs.Prelude.{◌≡◌, [], IfOk, IfSome};
 ghost use Rattle.dur_base.specs.Goodness.{IsGoodRaw};
 ghost use Rattle.dur_qos.specs.Good.{GoodPlan};
 ghost use Rattle.rtps_message.specs.Facts.{IsGoodFact, AreGood};
+ghost use Rattle.dur_hub.specs.Hubs.{StandsForSome};
 
 use crate::{Ack, Hub, Received, SnapFault, hubs_open_over_blank_views};
 use bytes::Bytes;
-use dur_base::{
-    Bits, EntityId, Fact, Form, Guid, Key, List, Number, Payload, Raw, SetMark, Ticks,
-};
+use dur_base::{Bits, EntityId, Fact, Form, Guid, Key, List, Number, Payload, Raw, SetMark, Ticks};
 use dur_qos::{Plan, PlanFault, PlanReader};
-use dur_view::View;
+use dur_view::{Limit, View};
 use std::alloc::Global;
 
 const W: Guid = Guid([
@@ -44,7 +43,9 @@ fn read(alloc: Global, text: &[u8]) -> Result<Plan, PlanFault>
     }
 }
 
-fn opened(alloc: Global, text: &[u8]) -> Option<Hub> {
+fn opened(alloc: Global, text: &[u8]) -> Option<Hub>
+    ensures { IfSome result (λ hub. StandsForSome hub) }
+{
     let plan = match read(alloc, text) {
         Ok(plan) => plan,
         Err(_) => return None,
@@ -54,7 +55,10 @@ fn opened(alloc: Global, text: &[u8]) -> Option<Hub> {
         Err(_) => return None,
     };
     hubs_open_over_blank_views();
-    Hub::new(alloc, plan, view, 1).ok()
+    match Hub::new(alloc, plan, view, 1) {
+        Ok(hub) => Some(hub),
+        Err(_) => None,
+    }
 }
 
 fn number(value: u64) -> Number {
@@ -64,31 +68,66 @@ fn number(value: u64) -> Number {
     }
 }
 
-fn marked(value: u64, key: Key, set: SetMark) -> Fact
-    requires { IsMark set }
+fn raw(key: Key) -> Raw
+    ensures good { IsGoodRaw result }
+    ensures payload { result.payload ≡ [] }
+{
+    Raw {
+        hash: Some(key),
+        status: 0,
+        stamp: None,
+        lifespan: None,
+        set: SetMark::NoSet,
+        original: None,
+        form: Form::Data,
+        payload: Payload::of(Bytes::new()),
+    }
+}
+
+fn told(value: u64, reader: EntityId, raw: Raw) -> Fact
+    requires { IsGoodRaw raw }
     ensures { IsGoodFact result }
 {
     Fact::Data {
         writer: W,
-        reader: EVERYBODY,
+        reader,
         number: number(value),
-        raw: Raw {
-            hash: Some(key),
-            status: 0,
-            stamp: None,
-            lifespan: None,
-            set,
-            original: None,
-            form: Form::Data,
-            payload: Payload::of(Bytes::new()),
-        },
+        raw,
     }
 }
 
 fn data(value: u64, key: Key) -> Fact
     ensures { IsGoodFact result }
 {
-    marked(value, key, SetMark::NoSet)
+    told(value, EVERYBODY, raw(key))
+}
+
+// A sample of the set that begins at number 1.
+fn in_set_1(value: u64) -> Fact
+    ensures { IsGoodFact result }
+{
+    let mut raw = raw(AA);
+    raw.set = SetMark::Of(Number::one());
+    told(value, EVERYBODY, raw)
+}
+
+// A sample that lives for a second.
+fn short_lived(value: u64) -> Fact
+    ensures { IsGoodFact result }
+{
+    let mut raw = raw(AA);
+    raw.lifespan = Some(Ticks(0x1_0000_0000));
+    told(value, EVERYBODY, raw)
+}
+
+// The writer disposes of the instance, and unregisters from it.
+fn end_of(value: u64) -> Fact
+    ensures { IsGoodFact result }
+{
+    let mut raw = raw(AA);
+    raw.status = 3;
+    raw.form = Form::Nothing;
+    told(value, EVERYBODY, raw)
 }
 
 fn beat(first: u64, last: u64) -> Fact
@@ -105,11 +144,25 @@ fn beat(first: u64, last: u64) -> Fact
 
 fn hears(hub: &mut Hub, alloc: Global, moment: u64, fact: Fact) -> Option<Received>
     requires { IsGoodFact fact }
+    ensures { StandsForSome hub.old → StandsForSome hub.new }
 {
     let mut facts = List::new(alloc);
     match facts.push(fact) {
         Ok(()) => Some(hub.receive(alloc, Ticks(moment), facts)),
         Err(_) => None,
+    }
+}
+
+// Whether the one sample of a datagram was refused at this number for this limit.
+fn is_refused(reply: Option<Received>, value: u64, limit: Limit) -> bool {
+    match reply {
+        Some(reply) => match reply.refused.as_slice() {
+            [refusal] => refusal.writer == W
+                && refusal.number == number(value)
+                && refusal.limit == limit,
+            _ => false,
+        },
+        None => false,
     }
 }
 
@@ -161,7 +214,10 @@ fn numbers_that_are_no_longer_there_are_one_skip(rt: HostRuntime) {
     let alloc = rt.alloc();
     let mut hub = opened(alloc, KEEP_3).expect(&rt, "memory");
     let far = 1 << 40;
-    let ack = ack_of(hears(&mut hub, alloc, 6, beat(far, far - 1))).expect(&rt, "an acknowledgement");
+    let ack = ack_of(hears(&mut hub, alloc, 6, beat(far, far - 1))).expect(
+        &rt,
+        "an acknowledgement",
+    );
     assert!(rt; hub.counts().entries == 1);
     assert!(rt; ack.set == Bits::empty(number(far)) && ack.is_final);
 }
@@ -205,12 +261,13 @@ fn a_reader_is_served_once(rt: HostRuntime) {
 fn a_view_keeps_the_members_of_an_open_set(rt: HostRuntime) {
     let alloc = rt.alloc();
     let mut hub = opened(alloc, PERSISTENT).expect(&rt, "memory");
-    for value in [1, 2] {
-        let _reply = hears(&mut hub, alloc, 5, marked(value, AA, SetMark::Of(number(1)))).expect(&rt, "memory");
-    }
+    let _reply = hears(&mut hub, alloc, 5, in_set_1(1)).expect(&rt, "memory");
+    let _reply = hears(&mut hub, alloc, 5, in_set_1(2)).expect(&rt, "memory");
     match hub.take_view(alloc) {
         Ok((batch, view)) => match view.writers.as_slice() {
-            [line] => assert!(rt; batch.entries.len() == 2 && line.held.len() == 2 && line.next == number(3)),
+            [line] => assert!(rt;
+                batch.entries.len() == 2 && line.held.len() == 2 && line.next == number(3)
+            ),
             _ => assert!(rt; false),
         },
         Err(_) => assert!(rt; false),
@@ -239,4 +296,88 @@ fn those_that_work_are_told_to_end(rt: HostRuntime) {
     hub.stop();
     let state = hub.state();
     assert!(rt; state.working == 0 && state.stopped);
+}
+
+#[test]
+fn a_refused_sample_is_asked_for_again(rt: HostRuntime) {
+    let alloc = rt.alloc();
+    let text =
+        b"prefix 0102030405060708\ntopic T transient hash all 2 - - - 0\nwriter a1a1a1a1a1a1a1a1a1a1a1a100000102 T -\nend\n";
+    let mut hub = opened(alloc, text).expect(&rt, "memory");
+    let _reply = hears(&mut hub, alloc, 0, short_lived(1)).expect(&rt, "memory");
+    let _reply = hears(&mut hub, alloc, 0, data(2, AA)).expect(&rt, "memory");
+    assert!(rt; is_refused(hears(&mut hub, alloc, 0, data(3, AA)), 3, Limit::Samples));
+    let ack = ack_of(hears(&mut hub, alloc, 0, beat(1, 3))).expect(&rt, "an acknowledgement");
+    assert!(rt; ack.set == Bits::of(number(3), [0x8000_0000, 0, 0, 0, 0, 0, 0, 0]));
+    let reply = hears(&mut hub, alloc, 0x1_0000_0000, data(3, AA)).expect(&rt, "memory");
+    assert!(rt; reply.refused.len() == 0 && hub.counts().entries == 3 && hub.counts().refused == 1);
+}
+
+#[test]
+fn an_instance_that_is_there_counts(rt: HostRuntime) {
+    let alloc = rt.alloc();
+    let text =
+        b"prefix 0102030405060708\ntopic T transient hash 1 - 1 - - 0\nwriter a1a1a1a1a1a1a1a1a1a1a1a100000102 T -\nend\n";
+    let mut hub = opened(alloc, text).expect(&rt, "memory");
+    let _reply = hears(&mut hub, alloc, 5, data(1, AA)).expect(&rt, "memory");
+    let _reply = hears(&mut hub, alloc, 5, end_of(2)).expect(&rt, "memory");
+    assert!(rt; is_refused(hears(&mut hub, alloc, 5, data(3, BB)), 3, Limit::Instances));
+    let reply = hears(&mut hub, alloc, 6, data(3, BB)).expect(&rt, "memory");
+    assert!(rt; reply.refused.len() == 0 && hub.counts().entries == 3);
+}
+
+#[test]
+fn a_gap_breaks_a_set(rt: HostRuntime) {
+    let alloc = rt.alloc();
+    let mut hub = opened(alloc, KEEP_3).expect(&rt, "memory");
+    let _reply = hears(&mut hub, alloc, 5, in_set_1(1)).expect(&rt, "memory");
+    let gap = Fact::Gap {
+        writer: W,
+        reader: EVERYBODY,
+        start: number(2),
+        set: Bits::empty(number(3)),
+    };
+    let _reply = hears(&mut hub, alloc, 5, gap).expect(&rt, "memory");
+    let _reply = hears(&mut hub, alloc, 5, data(3, AA)).expect(&rt, "memory");
+    let listed = hub.listing(alloc, 0, Ticks(5)).expect(&rt, "memory");
+    match listed.changes.as_slice() {
+        [change] => assert!(rt; change.number == number(3)),
+        _ => assert!(rt; false),
+    }
+    let ack = ack_of(hears(&mut hub, alloc, 6, beat(1, 3))).expect(&rt, "an acknowledgement");
+    assert!(rt; ack.set == Bits::empty(number(4)));
+}
+
+#[test]
+fn what_another_reader_is_told_is_not_heard(rt: HostRuntime) {
+    let alloc = rt.alloc();
+    let mut hub = opened(alloc, KEEP_3).expect(&rt, "memory");
+    let fact = told(1, EntityId([0, 0, 2, 7]), raw(AA));
+    let reply = hears(&mut hub, alloc, 5, fact).expect(&rt, "memory");
+    assert!(rt; reply.handled == 1 && hub.counts().entries == 0);
+}
+
+#[test]
+fn a_reader_of_more_than_is_kept_is_not_served(rt: HostRuntime) {
+    let alloc = rt.alloc();
+    let text =
+        b"prefix 0102030405060708\ntopic T transient hash 3 - - - - 0\nreader b2b2b2b2b2b2b2b2b2b2b2b200000107 T persistent\nend\n";
+    let mut hub = opened(alloc, text).expect(&rt, "memory");
+    assert!(rt; hub.snapshot(alloc, Ticks(7), R).err() == Some(SnapFault::NotServed));
+}
+
+#[test]
+fn a_mark_of_a_part_moves_the_base_so_far(rt: HostRuntime) {
+    let alloc = rt.alloc();
+    let mut hub = opened(alloc, PERSISTENT).expect(&rt, "memory");
+    for value in [1, 2] {
+        let _reply = hears(&mut hub, alloc, 5, data(value, AA)).expect(&rt, "memory");
+    }
+    let batch = hub.take();
+    assert!(rt; batch.entries.len() == 2);
+    for (upto, base) in [(1, 2), (2, 3)] {
+        hub.mark(upto);
+        let ack = ack_of(hears(&mut hub, alloc, 6, beat(1, 2))).expect(&rt, "an acknowledgement");
+        assert!(rt; ack.set == Bits::empty(number(base)) && ack.is_final == (base == 3));
+    }
 }
