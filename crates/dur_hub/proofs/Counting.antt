@@ -28,23 +28,43 @@ one_refusal w Stopped = refl
 
 pub acks_steps : (r : Run) (ss : List Step) → (after_steps r ss).acks ≡ r.acks + length (acks_of ss)
 acks_steps r [] = omega arith
-acks_steps r (s ∷ ss) = omega (arith, acks_steps (after_step r s) ss, length-append (ack_of s.ack) (acks_of ss), one_ack s.ack)
+acks_steps r (s ∷ ss) =
+    omega
+    (arith, acks_steps (after_step r s) ss, length-append (ack_of s.ack) (acks_of ss), one_ack s.ack)
 
-pub refused_steps : (r : Run) (ss : List Step) → (after_steps r ss).refused ≡ r.refused + length (refusals_of ss)
+pub refused_steps : (r : Run) (ss : List Step)
+    → (after_steps r ss).refused ≡ r.refused + length (refusals_of ss)
 refused_steps r [] = omega arith
-refused_steps r (s ∷ ss) = omega (arith, refused_steps (after_step r s) ss, length-append (refusal_of s) (refusals_of ss), one_refusal (writer_in (address_of s.fact)) s.end)
+refused_steps r (s ∷ ss) =
+    omega
+    (arith, refused_steps (after_step r s) ss, length-append (refusal_of s) (refusals_of ss), one_refusal (writer_in (address_of s.fact)) s.end)
 
 record Counted (r r' : Run) (e : Event) : Type 0 where
   acks : r'.acks ≡ r.acks + length (acks_by e)
   refused : r'.refused ≡ r.refused + length (refusals_by e)
 
 counted : (r : Run) (e : Event) → Counted r (after r e) e
-counted r (call.Receive m lost steps cut stopped) = record { acks = acks_steps (after_lease (at_moment m r) lost) (steps ++ cut); refused = refused_steps (after_lease (at_moment m r) lost) (steps ++ cut) }
+counted r (call.Receive m lost steps cut stopped) = record {
+  acks = acks_steps (after_lease (at_moment m r) lost) (steps ++ cut);
+  refused = refused_steps (after_lease (at_moment m r) lost) (steps ++ cut);
+}
 counted r (call.Snapshot m g lost (Ok s)) = record { acks = omega arith; refused = omega arith }
-counted r (call.Snapshot m g lost (Err fault.OutOfMemory)) = record { acks = omega arith; refused = omega arith }
-counted r (call.Snapshot m g lost (Err fault.Unknown)) = record { acks = omega arith; refused = omega arith }
-counted r (call.Snapshot m g lost (Err fault.NotServed)) = record { acks = omega arith; refused = omega arith }
-counted r (call.Snapshot m g lost (Err fault.Already)) = record { acks = omega arith; refused = omega arith }
+counted r (call.Snapshot m g lost (Err fault.OutOfMemory)) = record {
+  acks = omega arith;
+  refused = omega arith;
+}
+counted r (call.Snapshot m g lost (Err fault.Unknown)) = record {
+  acks = omega arith;
+  refused = omega arith;
+}
+counted r (call.Snapshot m g lost (Err fault.NotServed)) = record {
+  acks = omega arith;
+  refused = omega arith;
+}
+counted r (call.Snapshot m g lost (Err fault.Already)) = record {
+  acks = omega arith;
+  refused = omega arith;
+}
 counted r (call.Take b) = record { acks = omega arith; refused = omega arith }
 counted r (call.TakeView (Ok given)) = record { acks = omega arith; refused = omega arith }
 counted r (call.TakeView (Err e)) = record { acks = omega arith; refused = omega arith }
@@ -55,8 +75,13 @@ counted r (call.State s) = record { acks = omega arith; refused = omega arith }
 
 pub law_acks : (r : Run) (es : List Event) → (run_after r es).acks ≡ r.acks + length (acks_in es)
 law_acks r [] = omega arith
-law_acks r (e ∷ es) = omega (arith, law_acks (after r e) es, (counted r e).acks, length-append (acks_by e) (acks_in es))
+law_acks r (e ∷ es) =
+    omega
+    (arith, law_acks (after r e) es, (counted r e).acks, length-append (acks_by e) (acks_in es))
 
-pub law_refused : (r : Run) (es : List Event) → (run_after r es).refused ≡ r.refused + length (refusals_in es)
+pub law_refused : (r : Run) (es : List Event)
+    → (run_after r es).refused ≡ r.refused + length (refusals_in es)
 law_refused r [] = omega arith
-law_refused r (e ∷ es) = omega (arith, law_refused (after r e) es, (counted r e).refused, length-append (refusals_by e) (refusals_in es))
+law_refused r (e ∷ es) =
+    omega
+    (arith, law_refused (after r e) es, (counted r e).refused, length-append (refusals_by e) (refusals_in es))

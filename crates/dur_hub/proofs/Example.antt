@@ -37,16 +37,49 @@ abbrev writer : Guid
 writer = 7 ∷ []
 
 abbrev topic : Topic
-topic = record { name = 84 ∷ []; kind = Persistent; shape = shapes.None; depth = Some 1; max_samples = None; max_instances = None; max_per_instance = None; max_held = None; delay = 0 }
+topic = record {
+  name = 84 ∷ [];
+  kind = Persistent;
+  shape = shapes.None;
+  depth = Some 1;
+  max_samples = None;
+  max_instances = None;
+  max_per_instance = None;
+  max_held = None;
+  delay = 0;
+}
 
 abbrev plan : Plan
-plan = record { prefix = []; topics = topic ∷ []; writers = record { guid = writer; topic = 0; lease = None } ∷ []; readers = [] }
+plan = record {
+  prefix = [];
+  topics = topic ∷ [];
+  writers = record { guid = writer; topic = 0; lease = None } ∷ [];
+  readers = [];
+}
 
 abbrev raw : Raw
-raw = record { hash = None; status = 0; stamp = None; lifespan = None; set = NoSet; original = None; form = Data; payload = [] }
+raw = record {
+  hash = None;
+  status = 0;
+  stamp = None;
+  lifespan = None;
+  set = NoSet;
+  original = None;
+  form = Data;
+  payload = [];
+}
 
 abbrev sample : Sample
-sample = record { key = zero_key; act = Write; stamp = 5; lifespan = None; set = NoSet; original = None; form = Data; payload = [] }
+sample = record {
+  key = zero_key;
+  act = Write;
+  stamp = 5;
+  lifespan = None;
+  set = NoSet;
+  original = None;
+  form = Data;
+  payload = [];
+}
 
 abbrev entry : Entry
 entry = Took 5 writer 1 sample
@@ -55,13 +88,29 @@ abbrev beat : Fact
 beat = fact.Beat writer every_reader 1 1 false
 
 abbrev ack : ℕ → Bool → ℕ → Ack
-ack base is_final count = record { writer = writer; reader = 0 ∷ 0 ∷ 1 ∷ 4 ∷ []; set = empty_set base; is_final = is_final; count = count }
+ack base is_final count = record {
+  writer = writer;
+  reader = 0 ∷ 0 ∷ 1 ∷ 4 ∷ [];
+  set = empty_set base;
+  is_final = is_final;
+  count = count;
+}
 
 abbrev takes : Step
-takes = record { fact = fact.Data writer every_reader 1 raw; entries = entry ∷ []; end = Waits; ack = None }
+takes = record {
+  fact = fact.Data writer every_reader 1 raw;
+  entries = entry ∷ [];
+  end = Waits;
+  ack = None;
+}
 
 abbrev answers : ℕ → Bool → ℕ → Step
-answers base is_final count = record { fact = beat; entries = []; end = Waits; ack = Some (ack base is_final count) }
+answers base is_final count = record {
+  fact = beat;
+  entries = [];
+  end = Waits;
+  ack = Some (ack base is_final count);
+}
 
 abbrev pub log : List Event
 log =
@@ -74,7 +123,8 @@ log =
 
 first_receive : LegalReceive (at_moment 5 (opening plan nothing 1)) 0 (takes ∷ answers 1 false 1 ∷ []) [] false
 first_receive = record {
-  good = (record { status = omega arith; lifespan = tt; mark = tt; original = tt; payload = omega arith }, (tt, tt));
+  good =
+      (record { status = omega arith; lifespan = tt; mark = tt; original = tt; payload = omega arith }, (tt, tt));
   leased = inl refl;
   legal = (
     record { handles = ((refl, refl, refl, refl), omega arith, refl, refl); answer = refl },
@@ -95,7 +145,8 @@ legal = (
         record {
           good = (tt, tt);
           leased = inl refl;
-          legal = (record { handles = refl; answer = record { writer = refl; reader = refl; base = refl; asked = λ k. grind (arith, common_steps); is_final = refl; count = refl } }, tt);
+          legal =
+              (record { handles = refl; answer = record { writer = refl; reader = refl; base = refl; asked = λ k. grind (arith, common_steps); is_final = refl; count = refl } }, tt);
           whole = ((λ e. cc), tt);
           left = (refl, refl);
         },
@@ -126,7 +177,8 @@ sound = passes-sound (full plan nothing) record {
   few = refl;
   registered_here = refl;
   topics = record {
-    each = (record { name = refl; kind = omega arith; depth = (omega arith, omega arith); max_samples = tt; max_instances = tt; max_per_instance = tt; max_held = tt; delay = omega arith }, tt);
+    each =
+        (record { name = refl; kind = omega arith; depth = (omega arith, omega arith); max_samples = tt; max_instances = tt; max_per_instance = tt; max_held = tt; delay = omega arith }, tt);
     depths = (refl, tt);
     names = refl;
     count = omega arith;

@@ -12,7 +12,10 @@ use Rattle.dur_hub.specs.Queues.{AllFull, Queued, LedgerAt}
 use Rattle.dur_hub.proofs.Stored.{stored_one}
 
 -- the same lists and counts are queued alike
-pub same_queue : (q p : Queue) (t d : ℕ) (es : List Entry) → (p.full.items ≡ q.full.items) × (p.last.items ≡ q.last.items) × (p.unmarked.items ≡ q.unmarked.items) × (p.taken ≡ q.taken) × (p.durable ≡ q.durable) → Queued q t d es → Queued p t d es
+pub same_queue : (q p : Queue) (t d : ℕ) (es : List Entry)
+    → (p.full.items ≡ q.full.items) × (p.last.items ≡ q.last.items)
+    × (p.unmarked.items ≡ q.unmarked.items) × (p.taken ≡ q.taken) × (p.durable ≡ q.durable)
+    → Queued q t d es → Queued p t d es
 same_queue q p t d es same so = record {
   lined = record {
     pending = cc;
@@ -26,23 +29,38 @@ same_queue q p t d es same so = record {
   last = subst (λ l. length l < 4096) (sym same.1) so.last;
 }
 
-one_more : (h : History) (e : Entry) (n k : ℕ) → n ≡ (k + 1) % 2 ^ 64 → k ≡ length (entries_of h) % 2 ^ 64 → n ≡ length (entries_of (h ▸ e)) % 2 ^ 64
+one_more : (h : History) (e : Entry) (n k : ℕ) → n ≡ (k + 1) % 2 ^ 64
+    → k ≡ length (entries_of h) % 2 ^ 64 → n ≡ length (entries_of (h ▸ e)) % 2 ^ 64
 one_more h e n k more before = omega (arith, more, before, length-append (entries_of h) (e ∷ []))
 
 -- an entry of a persistent topic was admitted and queued
-pub admitted : (old : Ledger) (s : Store) (q r : Queue) (h : History) (t d n : ℕ) (e : Entry) → n ≡ (old.entries + 1) % 2 ^ 64 → old.entries ≡ length (entries_of h) % 2 ^ 64 → Keeps s (h ▸ e) → true ≡ is_stored (start h) (writer_of e)
-    → (q.full.items ≡ old.queue.full.items) × (q.last.items ≡ old.queue.last.items) × (q.unmarked.items ≡ old.queue.unmarked.items) × (q.taken ≡ old.queue.taken) × (q.durable ≡ old.queue.durable)
-    → Queued old.queue t d (stored h) → ((es : List Entry) → Queued q t d es → Queued r t d (es ++ e ∷ [])) → LedgerAt (record { store = s; queue = r; entries = n }) (h ▸ e) t d
+pub admitted : (old : Ledger) (s : Store) (q r : Queue) (h : History) (t d n : ℕ) (e : Entry)
+    → n ≡ (old.entries + 1) % 2 ^ 64 → old.entries ≡ length (entries_of h) % 2 ^ 64
+    → Keeps s (h ▸ e) → true ≡ is_stored (start h) (writer_of e)
+    → (q.full.items ≡ old.queue.full.items) × (q.last.items ≡ old.queue.last.items)
+    × (q.unmarked.items ≡ old.queue.unmarked.items) × (q.taken ≡ old.queue.taken)
+    × (q.durable ≡ old.queue.durable)
+    → Queued old.queue t d (stored h)
+    → ((es : List Entry) → Queued q t d es → Queued r t d (es ++ e ∷ []))
+    → LedgerAt (record { store = s; queue = r; entries = n }) (h ▸ e) t d
 admitted old s q r h t d n e more before keeps is same so push = record {
   keeps = keeps;
   entries = one_more h e n old.entries more before;
-  queued = subst (λ l. Queued r t d l) (sym (stored_one h e ∙ ap (λ b. cond b (stored h ++ e ∷ []) (stored h)) (sym is))) (push (stored h) (same_queue old.queue q t d (stored h) same so));
+  queued =
+      subst (λ l. Queued r t d l)
+      (sym (stored_one h e ∙ ap (λ b. cond b (stored h ++ e ∷ []) (stored h)) (sym is)))
+      (push (stored h) (same_queue old.queue q t d (stored h) same so));
 }
 
 -- one of another topic
-pub other_admitted : (s : Store) (q : Queue) (h : History) (t d n k : ℕ) (e : Entry) → n ≡ (k + 1) % 2 ^ 64 → k ≡ length (entries_of h) % 2 ^ 64 → Keeps s (h ▸ e) → false ≡ is_stored (start h) (writer_of e) → Queued q t d (stored h) → LedgerAt (record { store = s; queue = q; entries = n }) (h ▸ e) t d
+pub other_admitted : (s : Store) (q : Queue) (h : History) (t d n k : ℕ) (e : Entry)
+    → n ≡ (k + 1) % 2 ^ 64 → k ≡ length (entries_of h) % 2 ^ 64 → Keeps s (h ▸ e)
+    → false ≡ is_stored (start h) (writer_of e) → Queued q t d (stored h)
+    → LedgerAt (record { store = s; queue = q; entries = n }) (h ▸ e) t d
 other_admitted s q h t d n k e more before keeps is so = record {
   keeps = keeps;
   entries = one_more h e n k more before;
-  queued = subst (λ l. Queued q t d l) (sym (stored_one h e ∙ ap (λ b. cond b (stored h ++ e ∷ []) (stored h)) (sym is))) so;
+  queued =
+      subst (λ l. Queued q t d l)
+      (sym (stored_one h e ∙ ap (λ b. cond b (stored h ++ e ∷ []) (stored h)) (sym is))) so;
 }

@@ -22,39 +22,53 @@ use Rattle.dur_hub.specs.Marks.{IsAt, passed_number}
 use Rattle.dur_hub.proofs.Stored.{over, durable_is}
 
 -- the first i lines fit one way, and the others another way
-abbrev pub Half : (Line → Writer → Type 0) → (Line → Writer → Type 0) → ℕ → List Line → List Writer → Type 0
+abbrev pub Half : (Line → Writer → Type 0) → (Line → Writer → Type 0) → ℕ → List Line → List Writer
+    → Type 0
 Half P Q i [] [] = Unit {0}
 Half P Q i [] (w ∷ ws) = ⊥
 Half P Q i (l ∷ ls) [] = ⊥
 Half P Q zero (l ∷ ls) (w ∷ ws) = P l w × Half P Q zero ls ws
 Half P Q (suc i) (l ∷ ls) (w ∷ ws) = Q l w × Half P Q i ls ws
 
-pub half_none : (P Q : Line → Writer → Type 0) (ls : List Line) (ws : List Writer) → Pairs P ls ws → Half P Q 0 ls ws
+pub half_none : (P Q : Line → Writer → Type 0) (ls : List Line) (ws : List Writer) → Pairs P ls ws
+    → Half P Q 0 ls ws
 half_none P Q [] [] fit = tt
 half_none P Q [] (w ∷ ws) fit = fit
 half_none P Q (l ∷ ls) [] fit = fit
 half_none P Q (l ∷ ls) (w ∷ ws) fit = (fit.0, half_none P Q ls ws fit.1)
 
-pub half_all : (P Q : Line → Writer → Type 0) (ls : List Line) (ws : List Writer) → Half P Q (length ls) ls ws → Pairs Q ls ws
+pub half_all : (P Q : Line → Writer → Type 0) (ls : List Line) (ws : List Writer)
+    → Half P Q (length ls) ls ws → Pairs Q ls ws
 half_all P Q [] [] fit = tt
 half_all P Q [] (w ∷ ws) fit = fit
 half_all P Q (l ∷ ls) [] fit = fit
 half_all P Q (l ∷ ls) (w ∷ ws) fit = (fit.0, half_all P Q ls ws fit.1)
 
-pub half_more : (P Q : Line → Writer → Type 0) (i : ℕ) (ls : List Line) (ws : List Writer) (x line : Line) → Half P Q i ls ws → i < length ls → ((w : Writer) → P (get_or ls i x) w → Q line w) → Half P Q (suc i) (set ls i line) ws
+pub half_more : (P Q : Line → Writer → Type 0) (i : ℕ) (ls : List Line) (ws : List Writer)
+    (x line : Line)
+    → Half P Q i ls ws → i < length ls → ((w : Writer) → P (get_or ls i x) w → Q line w)
+    → Half P Q (suc i) (set ls i line) ws
 half_more P Q i [] ws x line fit lt turn = absurd (omega (arith, lt))
 half_more P Q zero (l ∷ ls) [] x line fit lt turn = fit
 half_more P Q (suc i) (l ∷ ls) [] x line fit lt turn = fit
 half_more P Q zero (l ∷ ls) (w ∷ ws) x line fit lt turn = (turn w fit.0, fit.1)
-half_more P Q (suc i) (l ∷ ls) (w ∷ ws) x line fit lt turn = (fit.0, half_more P Q i ls ws x line fit.1 (omega (arith, lt)) turn)
+half_more P Q (suc i) (l ∷ ls) (w ∷ ws) x line fit lt turn =
+    (fit.0, half_more P Q i ls ws x line fit.1 (omega (arith, lt)) turn)
 
-pub half_step : (P Q : Line → Writer → Type 0) (i : ℕ) (ls : List Line) (ws : List Writer) (x line : Line) → Half P Q i ls ws → i < length ls → ((w : Writer) → P (get_or ls i x) w → Q line w) → Half P Q (i + 1) (set ls i line) ws
-half_step P Q i ls ws x line fit lt turn = let e : suc i ≡ i + 1 = omega arith in subst (λ n. Half P Q n (set ls i line) ws) e (half_more P Q i ls ws x line fit lt turn)
+pub half_step : (P Q : Line → Writer → Type 0) (i : ℕ) (ls : List Line) (ws : List Writer)
+    (x line : Line)
+    → Half P Q i ls ws → i < length ls → ((w : Writer) → P (get_or ls i x) w → Q line w)
+    → Half P Q (i + 1) (set ls i line) ws
+half_step P Q i ls ws x line fit lt turn =
+    let e : suc i ≡ i + 1 =
+    omega arith in subst (λ n. Half P Q n (set ls i line) ws) e (half_more P Q i ls ws x line fit lt turn)
 
-pub half_end : (P Q : Line → Writer → Type 0) (n : ℕ) (ls : List Line) (ws : List Writer) → n ≡ length ls → Half P Q n ls ws → Pairs Q ls ws
+pub half_end : (P Q : Line → Writer → Type 0) (n : ℕ) (ls : List Line) (ws : List Writer)
+    → n ≡ length ls → Half P Q n ls ws → Pairs Q ls ws
 half_end P Q n ls ws is fit = half_all P Q ls ws (subst (λ k. Half P Q k ls ws) is fit)
 
-pub passed_is : (e : Entry) (g : Guid) (before : ℕ) → passed_number (is_same (passed_by e).writer g) (passed_by e).next before ≡ next_by e g before
+pub passed_is : (e : Entry) (g : Guid) (before : ℕ)
+    → passed_number (is_same (passed_by e).writer g) (passed_by e).next before ≡ next_by e g before
 passed_is (Took m u n s) g before = number_by (is_same u g) where
   number_by : (b : Bool) → passed_number b (Some (n + 1)) before ≡ cond b (n + 1) before
   number_by true = refl
@@ -69,13 +83,21 @@ passed_is (Lost m u) g before = number_by (is_same u g) where
   number_by false = refl
 
 -- one more durable entry
-pub durable_more : (h : History) (d : ℕ) (e : Entry) (g : Guid) → IsAt (stored h) d e → next (durable_part h (d + 1)) g ≡ next_by e g (next (durable_part h d) g)
+pub durable_more : (h : History) (d : ℕ) (e : Entry) (g : Guid) → IsAt (stored h) d e
+    → next (durable_part h (d + 1)) g ≡ next_by e g (next (durable_part h d) g)
 durable_more h d e g at =
-    ap (λ q. next q g) (durable_is h (d + 1) ∙ ap (over (start h)) at ∙ extend-push (Start (persistent_view (start h))) (take d (stored h)) e) ∙ ap (λ q. next_by e g (next q g)) (sym (durable_is h d))
+    ap (λ q. next q g)
+    (durable_is h (d + 1) ∙ ap (over (start h)) at ∙ extend-push (Start (persistent_view (start h))) (take d (stored h)) e)
+    ∙ ap (λ q. next_by e g (next q g)) (sym (durable_is h d))
 
-pub line_passed : (plan : Plan) (h : History) (d : ℕ) (e : Entry) (w : Writer) (line line' : Line) (p : Passed) → IsAt (stored h) d e → p ≡ passed_by e → LineFits plan h d line w
-    → line'.guid ≡ line.guid → line'.shape ≡ line.shape → line'.reader ≡ line.reader → line'.lease ≡ line.lease → line'.stored ≡ line.stored → line'.proxy ≡ line.proxy → line'.heard ≡ line.heard → line'.lost ≡ line.lost → line'.acks ≡ line.acks
-    → line'.durable ≡ passed_number (is_same p.writer line.guid) p.next line.durable → LineFits plan h (d + 1) line' w
+pub line_passed : (plan : Plan) (h : History) (d : ℕ) (e : Entry) (w : Writer) (line line' : Line)
+    (p : Passed)
+    → IsAt (stored h) d e → p ≡ passed_by e → LineFits plan h d line w
+    → line'.guid ≡ line.guid → line'.shape ≡ line.shape → line'.reader ≡ line.reader
+    → line'.lease ≡ line.lease → line'.stored ≡ line.stored → line'.proxy ≡ line.proxy
+    → line'.heard ≡ line.heard → line'.lost ≡ line.lost → line'.acks ≡ line.acks
+    → line'.durable ≡ passed_number (is_same p.writer line.guid) p.next line.durable
+    → LineFits plan h (d + 1) line' w
 line_passed plan h d e w line line' p at is fits guid shape reader lease stor proxy heard lost acks durable = record {
   guid = guid ∙ fits.guid;
   shape = shape ∙ fits.shape;
@@ -86,18 +108,25 @@ line_passed plan h d e w line line' p at is fits guid shape reader lease stor pr
   heard = heard ∙ fits.heard;
   lost = lost ∙ fits.lost;
   acks = acks ∙ fits.acks;
-  durable = λ yes1. durable ∙ ap (λ q. passed_number (is_same q.writer line.guid) q.next line.durable) is ∙ passed_is e line.guid line.durable ∙ ap (λ g. next_by e g line.durable) fits.guid ∙ ap (next_by e w.line.guid) (fits.durable yes1) ∙ sym (durable_more h d e w.line.guid at);
+  durable =
+      λ yes1. durable ∙ ap (λ q. passed_number (is_same q.writer line.guid) q.next line.durable) is
+      ∙ passed_is e line.guid line.durable ∙ ap (λ g. next_by e g line.durable) fits.guid
+      ∙ ap (next_by e w.line.guid) (fits.durable yes1) ∙ sym (durable_more h d e w.line.guid at);
 }
 
 empty_any : {X : Type 0} (l : List X) → l ≡ drop 1 l → l ≡ []
 empty_any [] is = refl
 empty_any (x ∷ l) is = absurd (omega (arith, ap length is))
 
-pub moved : (q : Queue) (ls : List Line) (plan : Plan) (h : History) (t d n : ℕ) (ws : List Writer) → d ≡ n → Queued q t d (stored h) × LinesFit plan h d ls ws → Queued q t n (stored h) × LinesFit plan h n ls ws
-moved q ls plan h t d n ws is so = subst (λ k. Queued q t k (stored h) × LinesFit plan h k ls ws) is so
+pub moved : (q : Queue) (ls : List Line) (plan : Plan) (h : History) (t d n : ℕ) (ws : List Writer)
+    → d ≡ n → Queued q t d (stored h) × LinesFit plan h d ls ws
+    → Queued q t n (stored h) × LinesFit plan h n ls ws
+moved q ls plan h t d n ws is so =
+    subst (λ k. Queued q t k (stored h) × LinesFit plan h k ls ws) is so
 
 -- the queue without the first pair
-front_at : (es : List Entry) (d : ℕ) (e : Entry) (rest : List Entry) → drop d es ≡ e ∷ rest → IsAt es d e × (drop (d + 1) es ≡ rest)
+front_at : (es : List Entry) (d : ℕ) (e : Entry) (rest : List Entry) → drop d es ≡ e ∷ rest
+    → IsAt es d e × (drop (d + 1) es ≡ rest)
 front_at es zero e rest is = (ap (take 1) is, ap (drop 1) is)
 front_at [] (suc d) e rest is = absurd (cc)
 front_at (x ∷ es) (suc d) e rest is =
@@ -105,32 +134,45 @@ front_at (x ∷ es) (suc d) e rest is =
     let n : suc d + 1 ≡ suc (d + 1) = omega arith in
     (ap (λ k. take k (x ∷ es)) n ∙ ap (λ l. x ∷ l) so.0, ap (λ k. drop k (x ∷ es)) n ∙ so.1)
 
-pub popped : (old new : Queue) (t d : ℕ) (es : List Entry) (o : Option Passed) → Queued old t d es → d < t → old.unmarked.items ≡ option_to_list o ++ new.unmarked.items → new.unmarked.items ≡ drop 1 old.unmarked.items → new.full.items ≡ old.full.items → new.last.items ≡ old.last.items → new.taken ≡ old.taken → new.durable ≡ (old.durable + 1) % 2 ^ 64
+pub popped : (old new : Queue) (t d : ℕ) (es : List Entry) (o : Option Passed) → Queued old t d es
+    → d < t → old.unmarked.items ≡ option_to_list o ++ new.unmarked.items
+    → new.unmarked.items ≡ drop 1 old.unmarked.items → new.full.items ≡ old.full.items
+    → new.last.items ≡ old.last.items → new.taken ≡ old.taken
+    → new.durable ≡ (old.durable + 1) % 2 ^ 64
     → (e : Entry) × IsAt es d e × (o ≡ Some (passed_by e)) × Queued new t (d + 1) es
-popped old new t d es o so lt items left_is full last taken durable = popped_by (drop d es) refl where
-  popped_by : (l : List Entry) → drop d es ≡ l → (e : Entry) × IsAt es d e × (o ≡ Some (passed_by e)) × Queued new t (d + 1) es
-  popped_by [] is = absurd (omega (arith, lt, so.lined.handed, ap length is, length-drop d es))
-  popped_by (e ∷ rest) is = first o refl where
-    first : (x : Option Passed) → o ≡ x → (e : Entry) × IsAt es d e × (o ≡ Some (passed_by e)) × Queued new t (d + 1) es
-    first None at = absurd (let q = empty_any old.unmarked.items (items ∙ ap (λ k. option_to_list k ++ new.unmarked.items) at ∙ left_is) in let p = so.lined.unmarked ∙ ap (map passed_by) is in cc)
-    first (Some p) at =
-        let front = front_at es d e rest is in
-        let pairs : p ∷ new.unmarked.items ≡ passed_by e ∷ map passed_by rest = sym (items ∙ ap (λ k. option_to_list k ++ new.unmarked.items) at) ∙ so.lined.unmarked ∙ ap (map passed_by) is in
-        let here : p ≡ passed_by e = cc in
-        let left : new.unmarked.items ≡ map passed_by rest = cc in (
-          e,
-          front.0,
-          at ∙ ap Some here,
-          record {
-            lined = record {
-              pending = ap (λ k. joined k ++ new.last.items) full ∙ ap (λ k. joined old.full.items ++ k) last ∙ so.lined.pending;
-              full = subst AllFull (sym full) so.lined.full;
-              unmarked = left ∙ ap (map passed_by) (sym front.1);
-              taken = taken ∙ so.lined.taken;
-              durable = omega (arith, durable, so.lined.durable);
-              marked = omega (arith, lt);
-              handed = so.lined.handed;
-            };
-            last = subst (λ k. length k < 4096) (sym last) so.last;
-          },
-        )
+popped old new t d es o so lt items left_is full last taken durable =
+    popped_by (drop d es) refl where
+      popped_by : (l : List Entry) → drop d es ≡ l
+          → (e : Entry) × IsAt es d e × (o ≡ Some (passed_by e)) × Queued new t (d + 1) es
+      popped_by [] is = absurd (omega (arith, lt, so.lined.handed, ap length is, length-drop d es))
+      popped_by (e ∷ rest) is = first o refl where
+        first : (x : Option Passed) → o ≡ x
+            → (e : Entry) × IsAt es d e × (o ≡ Some (passed_by e)) × Queued new t (d + 1) es
+        first None at =
+            absurd
+            (let q = empty_any old.unmarked.items (items ∙ ap (λ k. option_to_list k ++ new.unmarked.items) at ∙ left_is) in let p = so.lined.unmarked ∙ ap (map passed_by) is in cc)
+        first (Some p) at =
+            let front = front_at es d e rest is in
+            let pairs : p ∷ new.unmarked.items ≡ passed_by e ∷ map passed_by rest =
+            sym (items ∙ ap (λ k. option_to_list k ++ new.unmarked.items) at) ∙ so.lined.unmarked
+            ∙ ap (map passed_by) is in
+            let here : p ≡ passed_by e = cc in
+            let left : new.unmarked.items ≡ map passed_by rest = cc in (
+              e,
+              front.0,
+              at ∙ ap Some here,
+              record {
+                lined = record {
+                  pending =
+                      ap (λ k. joined k ++ new.last.items) full
+                      ∙ ap (λ k. joined old.full.items ++ k) last ∙ so.lined.pending;
+                  full = subst AllFull (sym full) so.lined.full;
+                  unmarked = left ∙ ap (map passed_by) (sym front.1);
+                  taken = taken ∙ so.lined.taken;
+                  durable = omega (arith, durable, so.lined.durable);
+                  marked = omega (arith, lt);
+                  handed = so.lined.handed;
+                };
+                last = subst (λ k. length k < 4096) (sym last) so.last;
+              },
+            )

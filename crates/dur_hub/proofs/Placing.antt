@@ -39,7 +39,8 @@ pub record Same (h h' : History) (d : ℕ) : Type 0 where
   pub begun : start h' ≡ start h
   pub kept : durable_part h' d ≡ durable_part h d
 
-pub line_same : (plan : Plan) (h h' : History) (d : ℕ) (l : Line) (w : Writer) → Same h h' d → LineFits plan h d l w → LineFits plan h' d l w
+pub line_same : (plan : Plan) (h h' : History) (d : ℕ) (l : Line) (w : Writer) → Same h h' d
+    → LineFits plan h d l w → LineFits plan h' d l w
 line_same plan h h' d l w same fits = record {
   guid = fits.guid;
   shape = fits.shape;
@@ -50,39 +51,59 @@ line_same plan h h' d l w same fits = record {
   heard = fits.heard;
   lost = fits.lost;
   acks = fits.acks;
-  durable = λ yes1. fits.durable (sym (ap (λ v. is_stored v w.line.guid) same.begun) ∙ yes1) ∙ sym (ap (λ k. next_in k w.line.guid) same.kept);
+  durable =
+      λ yes1. fits.durable (sym (ap (λ v. is_stored v w.line.guid) same.begun) ∙ yes1)
+      ∙ sym (ap (λ k. next_in k w.line.guid) same.kept);
 }
 
-pub lines_same : (plan : Plan) (h h' : History) (d : ℕ) (ls : List Line) (ws : List Writer) → Same h h' d → LinesFit plan h d ls ws → LinesFit plan h' d ls ws
+pub lines_same : (plan : Plan) (h h' : History) (d : ℕ) (ls : List Line) (ws : List Writer)
+    → Same h h' d → LinesFit plan h d ls ws → LinesFit plan h' d ls ws
 lines_same plan h h' d [] [] same fit = tt
 lines_same plan h h' d [] (w ∷ ws) same fit = fit
 lines_same plan h h' d (l ∷ ls) [] same fit = fit
-lines_same plan h h' d (l ∷ ls) (w ∷ ws) same fit = (line_same plan h h' d l w same fit.0, lines_same plan h h' d ls ws same fit.1)
+lines_same plan h h' d (l ∷ ls) (w ∷ ws) same fit =
+    (line_same plan h h' d l w same fit.0, lines_same plan h h' d ls ws same fit.1)
 
-to_same : (l : Line) (w : Writer) (plan : Plan) (a : Address) (u r : List ℕ) → l.guid ≡ w.line.guid → l.reader ≡ reader_id_of plan w.line.topic → a.writer ≡ u → a.reader ≡ r → is_to l a ≡ (is_same w.line.guid u && is_for plan w.line r)
-to_same l w plan a u r e1 e2 e3 e4 = ap (λ x. is_same x a.writer && (bytes_eq a.reader every_reader || bytes_eq a.reader l.reader)) e1 ∙ ap (λ x. is_same w.line.guid x && (bytes_eq a.reader every_reader || bytes_eq a.reader l.reader)) e3 ∙ ap (λ x. is_same w.line.guid u && (bytes_eq x every_reader || bytes_eq x l.reader)) e4 ∙ ap (λ x. is_same w.line.guid u && (bytes_eq r every_reader || bytes_eq r x)) e2
+to_same : (l : Line) (w : Writer) (plan : Plan) (a : Address) (u r : List ℕ) → l.guid ≡ w.line.guid
+    → l.reader ≡ reader_id_of plan w.line.topic → a.writer ≡ u → a.reader ≡ r
+    → is_to l a ≡ (is_same w.line.guid u && is_for plan w.line r)
+to_same l w plan a u r e1 e2 e3 e4 =
+    ap (λ x. is_same x a.writer && (bytes_eq a.reader every_reader || bytes_eq a.reader l.reader))
+    e1
+    ∙ ap (λ x. is_same w.line.guid x && (bytes_eq a.reader every_reader || bytes_eq a.reader l.reader)) e3
+    ∙ ap (λ x. is_same w.line.guid u && (bytes_eq x every_reader || bytes_eq x l.reader)) e4
+    ∙ ap (λ x. is_same w.line.guid u && (bytes_eq r every_reader || bytes_eq r x)) e2
 
 abbrev pub the_address : List ℕ → List ℕ → Address
 the_address u r = record { writer = u; reader = r }
 
-some_address : (u r : List ℕ) (a : Address) → Some (record { writer = u; reader = r }) ≡ Some a → (a.writer ≡ u) × (a.reader ≡ r)
-some_address u r a is = let e : the_address u r ≡ a = cc in (sym (ap (λ x. x.writer) e), sym (ap (λ x. x.reader) e))
+some_address : (u r : List ℕ) (a : Address) → Some (record { writer = u; reader = r }) ≡ Some a
+    → (a.writer ≡ u) × (a.reader ≡ r)
+some_address u r a is =
+    let e : the_address u r ≡ a = cc in (sym (ap (λ x. x.writer) e), sym (ap (λ x. x.reader) e))
 
 -- a line of an address stands for a writer of which the fact speaks
-pub is_to_is : (plan : Plan) (h : History) (d : ℕ) (l : Line) (w : Writer) (f : Fact) (a : Address) → LineFits plan h d l w → address_of f ≡ Some a → is_to l a ≡ speaks_of plan w.line f
-is_to_is plan h d l w (fact.Data u r n raw) a fits is = to_same l w plan a u r fits.guid fits.reader (some_address u r a is).0 (some_address u r a is).1
-is_to_is plan h d l w (fact.Unreadable u r n) a fits is = to_same l w plan a u r fits.guid fits.reader (some_address u r a is).0 (some_address u r a is).1
-is_to_is plan h d l w (fact.Gap u r from set) a fits is = to_same l w plan a u r fits.guid fits.reader (some_address u r a is).0 (some_address u r a is).1
-is_to_is plan h d l w (fact.Beat u r first last is_final) a fits is = to_same l w plan a u r fits.guid fits.reader (some_address u r a is).0 (some_address u r a is).1
+pub is_to_is : (plan : Plan) (h : History) (d : ℕ) (l : Line) (w : Writer) (f : Fact) (a : Address)
+    → LineFits plan h d l w → address_of f ≡ Some a → is_to l a ≡ speaks_of plan w.line f
+is_to_is plan h d l w (fact.Data u r n raw) a fits is =
+    to_same l w plan a u r fits.guid fits.reader (some_address u r a is).0 (some_address u r a is).1
+is_to_is plan h d l w (fact.Unreadable u r n) a fits is =
+    to_same l w plan a u r fits.guid fits.reader (some_address u r a is).0 (some_address u r a is).1
+is_to_is plan h d l w (fact.Gap u r from set) a fits is =
+    to_same l w plan a u r fits.guid fits.reader (some_address u r a is).0 (some_address u r a is).1
+is_to_is plan h d l w (fact.Beat u r first last is_final) a fits is =
+    to_same l w plan a u r fits.guid fits.reader (some_address u r a is).0 (some_address u r a is).1
 is_to_is plan h d l w (fact.Nack u r set is_final) a fits is = absurd (cc)
 
-pub none_speaks : (plan : Plan) (f : Fact) (ws : List Writer) → address_of f ≡ None → speaker_in plan f ws ≡ None
+pub none_speaks : (plan : Plan) (f : Fact) (ws : List Writer) → address_of f ≡ None
+    → speaker_in plan f ws ≡ None
 none_speaks plan (fact.Data u r n raw) ws is = absurd (cc)
 none_speaks plan (fact.Unreadable u r n) ws is = absurd (cc)
 none_speaks plan (fact.Gap u r from set) ws is = absurd (cc)
 none_speaks plan (fact.Beat u r first last is_final) ws is = absurd (cc)
 none_speaks plan (fact.Nack u r set is_final) [] is = refl
-none_speaks plan (fact.Nack u r set is_final) (w ∷ ws) is = none_speaks plan (fact.Nack u r set is_final) ws is
+none_speaks plan (fact.Nack u r set is_final) (w ∷ ws) is =
+    none_speaks plan (fact.Nack u r set is_final) ws is
 
 module _ (plan : Plan) (h : History) (d : ℕ) (f : Fact) (a : Address) (by : address_of f ≡ Some a) where
   -- the line at the place that was found, its writer, and what stands after both change
@@ -91,64 +112,93 @@ module _ (plan : Plan) (h : History) (d : ℕ) (f : Fact) (a : Address) (by : ad
     pub within : k < length ls
     pub found : speaker_in plan f ws ≡ Some writer
     pub fits : LineFits plan h d (get_or ls k x) writer
-    pub put : (h' : History) (line : Line) (change : Writer → Writer) → Same h h' d → LineFits plan h' d line (change writer) → LinesFit plan h' d (set ls k line) (with_speaker plan f change ws)
+    pub put : (h' : History) (line : Line) (change : Writer → Writer) → Same h h' d
+        → LineFits plan h' d line (change writer)
+        → LinesFit plan h' d (set ls k line) (with_speaker plan f change ws)
 
-  picked_next : (l : Line) (ls : List Line) (w : Writer) (ws : List Writer) (k : ℕ) (x : Line) → speaks_of plan w.line f ≡ false → LineFits plan h d l w → Picked ls ws k x → Picked (l ∷ ls) (w ∷ ws) (suc k) x
+  picked_next : (l : Line) (ls : List Line) (w : Writer) (ws : List Writer) (k : ℕ) (x : Line)
+      → speaks_of plan w.line f ≡ false → LineFits plan h d l w → Picked ls ws k x
+      → Picked (l ∷ ls) (w ∷ ws) (suc k) x
   picked_next l ls w ws k x no_speech fits p = record {
     writer = p.writer;
     within = omega (arith, p.within);
     found = ap (λ b. cond b (Some w) (speaker_in plan f ws)) no_speech ∙ p.found;
     fits = p.fits;
     put = λ h' line change same fit.
-        let here : LinesFit plan h' d (l ∷ set ls k line) (w ∷ with_speaker plan f change ws) = (line_same plan h h' d l w same fits, p.put h' line change same fit) in
-        subst (λ b. LinesFit plan h' d (l ∷ set ls k line) (cond b (change w ∷ ws) (w ∷ with_speaker plan f change ws))) (sym no_speech) here;
+        let here : LinesFit plan h' d (l ∷ set ls k line) (w ∷ with_speaker plan f change ws) =
+        (line_same plan h h' d l w same fits, p.put h' line change same fit) in
+        subst
+        (λ b. LinesFit plan h' d (l ∷ set ls k line) (cond b (change w ∷ ws) (w ∷ with_speaker plan f change ws)))
+        (sym no_speech) here;
   }
 
-  picked_here : (l : Line) (ls : List Line) (w : Writer) (ws : List Writer) (x : Line) → speaks_of plan w.line f ≡ true → LineFits plan h d l w → LinesFit plan h d ls ws → Picked (l ∷ ls) (w ∷ ws) 0 x
+  picked_here : (l : Line) (ls : List Line) (w : Writer) (ws : List Writer) (x : Line)
+      → speaks_of plan w.line f ≡ true → LineFits plan h d l w → LinesFit plan h d ls ws
+      → Picked (l ∷ ls) (w ∷ ws) 0 x
   picked_here l ls w ws x is fits rest = record {
     writer = w;
     within = omega arith;
     found = ap (λ b. cond b (Some w) (speaker_in plan f ws)) is;
     fits = fits;
     put = λ h' line change same fit.
-        let here : LinesFit plan h' d (line ∷ ls) (change w ∷ ws) = (fit, lines_same plan h h' d ls ws same rest) in
-        subst (λ b. LinesFit plan h' d (line ∷ ls) (cond b (change w ∷ ws) (w ∷ with_speaker plan f change ws))) (sym is) here;
+        let here : LinesFit plan h' d (line ∷ ls) (change w ∷ ws) =
+        (fit, lines_same plan h h' d ls ws same rest) in
+        subst
+        (λ b. LinesFit plan h' d (line ∷ ls) (cond b (change w ∷ ws) (w ∷ with_speaker plan f change ws)))
+        (sym is) here;
   }
 
-  pub picks : (j i : ℕ) (ls : List Line) (ws : List Writer) (x : Line) → LinesFit plan h d ls ws → place_from j ls a ≡ Some i → (k : ℕ) × (i ≡ k + j) × Picked ls ws k x
+  pub picks : (j i : ℕ) (ls : List Line) (ws : List Writer) (x : Line) → LinesFit plan h d ls ws
+      → place_from j ls a ≡ Some i → (k : ℕ) × (i ≡ k + j) × Picked ls ws k x
   picks j i [] ws x fit is = absurd (cc)
   picks j i (l ∷ ls) [] x fit is = absurd fit
-  picks j i (l ∷ ls) (w ∷ ws) x fit is = picks_by (is_to l a) refl (λ later. picks (j + 1) i ls ws x fit.1 later) where
-    picks_by : (b : Bool) → is_to l a ≡ b → (place_from (j + 1) ls a ≡ Some i → (k : ℕ) × (i ≡ k + (j + 1)) × Picked ls ws k x) → (k : ℕ) × (i ≡ k + j) × Picked (l ∷ ls) (w ∷ ws) k x
-    picks_by true same more =
-        let at : Some j ≡ Some i = sym (ap (λ b. cond b (Some j) (place_from (j + 1) ls a)) same) ∙ is in
-        let e : j ≡ i = cc in
-        (0, omega arith, picked_here l ls w ws x (sym (is_to_is plan h d l w f a fit.0 by) ∙ same) fit.0 fit.1)
-    picks_by false other more =
-        let there = more (sym (ap (λ b. cond b (Some j) (place_from (j + 1) ls a)) other) ∙ is) in
-        (suc there.0, omega (arith, there.1), picked_next l ls w ws there.0 x (sym (is_to_is plan h d l w f a fit.0 by) ∙ other) fit.0 there.2)
+  picks j i (l ∷ ls) (w ∷ ws) x fit is =
+      picks_by (is_to l a) refl (λ later. picks (j + 1) i ls ws x fit.1 later) where
+        picks_by : (b : Bool) → is_to l a ≡ b
+            → (place_from (j + 1) ls a ≡ Some i → (k : ℕ) × (i ≡ k + (j + 1)) × Picked ls ws k x)
+            → (k : ℕ) × (i ≡ k + j) × Picked (l ∷ ls) (w ∷ ws) k x
+        picks_by true same more =
+            let at : Some j ≡ Some i =
+            sym (ap (λ b. cond b (Some j) (place_from (j + 1) ls a)) same) ∙ is in
+            let e : j ≡ i = cc in
+            (0, omega arith, picked_here l ls w ws x (sym (is_to_is plan h d l w f a fit.0 by) ∙ same) fit.0 fit.1)
+        picks_by false other more =
+            let there = more (sym (ap (λ b. cond b (Some j) (place_from (j + 1) ls a)) other) ∙ is) in
+            (suc there.0, omega (arith, there.1), picked_next l ls w ws there.0 x (sym (is_to_is plan h d l w f a fit.0 by) ∙ other) fit.0 there.2)
 
-  pub not_there : (j : ℕ) (ls : List Line) (ws : List Writer) → LinesFit plan h d ls ws → place_from j ls a ≡ None → speaker_in plan f ws ≡ None
+  pub not_there : (j : ℕ) (ls : List Line) (ws : List Writer) → LinesFit plan h d ls ws
+      → place_from j ls a ≡ None → speaker_in plan f ws ≡ None
   not_there j [] [] fit is = refl
   not_there j [] (w ∷ ws) fit is = absurd fit
   not_there j (l ∷ ls) [] fit is = absurd fit
-  not_there j (l ∷ ls) (w ∷ ws) fit is = not_by (is_to l a) refl (λ later. not_there (j + 1) ls ws fit.1 later) where
-    not_by : (b : Bool) → is_to l a ≡ b → (place_from (j + 1) ls a ≡ None → speaker_in plan f ws ≡ None) → speaker_in plan f (w ∷ ws) ≡ None
-    not_by true same more =
-        let at : Some j ≡ None = sym (ap (λ b. cond b (Some j) (place_from (j + 1) ls a)) same) ∙ is in
-        absurd (cc)
-    not_by false other more =
-        ap (λ b. cond b (Some w) (speaker_in plan f ws)) (sym (is_to_is plan h d l w f a fit.0 by) ∙ other) ∙ more (sym (ap (λ b. cond b (Some j) (place_from (j + 1) ls a)) other) ∙ is)
+  not_there j (l ∷ ls) (w ∷ ws) fit is =
+      not_by (is_to l a) refl (λ later. not_there (j + 1) ls ws fit.1 later) where
+        not_by : (b : Bool) → is_to l a ≡ b
+            → (place_from (j + 1) ls a ≡ None → speaker_in plan f ws ≡ None)
+            → speaker_in plan f (w ∷ ws) ≡ None
+        not_by true same more =
+            let at : Some j ≡ None =
+            sym (ap (λ b. cond b (Some j) (place_from (j + 1) ls a)) same) ∙ is in
+            absurd (cc)
+        not_by false other more =
+            ap (λ b. cond b (Some w) (speaker_in plan f ws))
+            (sym (is_to_is plan h d l w f a fit.0 by) ∙ other)
+            ∙ more (sym (ap (λ b. cond b (Some j) (place_from (j + 1) ls a)) other) ∙ is)
 
 -- a fact of a writer of the plan
 pub one_step : (l : Ledger) (ls : List Line) (m i : ℕ) (f : Fact) (a : Address) (x : Heeded) (notes mid : Notes) (l' : Ledger) (line line' : Line) (notes' : Notes)
-    → IsGoodFact f → address_of f ≡ Some a → place_from 0 ls a ≡ Some i → line ≡ get_or ls i line → (speaks : Speaks l line m f x l' line')
-    → mid.acks.items ≡ notes.acks.items → mid.refused.items ≡ notes.refused.items → notes'.acks.items ≡ mid.acks.items ++ ack_of x.ack → notes'.refused.items ≡ mid.refused.items ++ refusal_at a.writer x.end
+    → IsGoodFact f → address_of f ≡ Some a → place_from 0 ls a ≡ Some i → line ≡ get_or ls i line
+    → (speaks : Speaks l line m f x l' line')
+    → mid.acks.items ≡ notes.acks.items → mid.refused.items ≡ notes.refused.items
+    → notes'.acks.items ≡ mid.acks.items ++ ack_of x.ack
+    → notes'.refused.items ≡ mid.refused.items ++ refusal_at a.writer x.end
     → OneStep l ls m f notes l' (set ls i line') notes' (step_of f speaks.entries x)
 one_step l ls m i f a x notes mid l' line line' notes' fine by place at speaks acks0 refused0 acks refused = record {
   fact = refl;
   acks = acks ∙ ap (λ k. k ++ ack_of x.ack) acks0;
-  refused = refused ∙ ap (λ k. k ++ refusal_at a.writer x.end) refused0 ∙ ap (λ o. notes.refused.items ++ refusal_at (writer_in o) x.end) (sym by);
+  refused =
+      refused ∙ ap (λ k. k ++ refusal_at a.writer x.end) refused0
+      ∙ ap (λ o. notes.refused.items ++ refusal_at (writer_in o) x.end) (sym by);
   holds = λ r st is.
       let d : ℕ = r.durable in
       let es : List Entry = speaks.entries in
@@ -160,8 +210,10 @@ one_step l ls m i f a x notes mid l' line line' notes' fine by place at speaks a
       let w : Writer = p.writer in
       let e : k ≡ i = omega (arith, there.1) in
       let here : get_or ls k line ≡ line = ap (λ n. get_or ls n line) e ∙ sym at in
-      let fits : LineFits r.plan r.history d line w = subst (λ q. LineFits r.plan r.history d q w) here p.fits in
-      let good : GoodWriter r.history r.plan w = speaker_good r.plan f r.history r.writers w st.good.writers p.found in
+      let fits : LineFits r.plan r.history d line w =
+      subst (λ q. LineFits r.plan r.history d q w) here p.fits in
+      let good : GoodWriter r.history r.plan w =
+      speaker_good r.plan f r.history r.writers w st.good.writers p.found in
       let b = speaks.holds r w st.ledger fits good st.good.history st.good.early is in
       let legal : LegalStep r step = subst (HearsBy r step) (sym p.found) b.0 in
       let within : d ≤ length (stored r.history) = omega (arith, st.good.durable, st.good.taken) in
@@ -169,14 +221,24 @@ one_step l ls m i f a x notes mid l' line line' notes' fine by place at speaks a
         legal,
         record {
           ledger = b.1;
-          lines = subst (λ n. LinesFit r.plan h' d (set ls n line') (with_speaker r.plan f (spoken r step) r.writers)) e (p.put h' line' (spoken r step) same b.2);
+          lines =
+              subst
+              (λ n. LinesFit r.plan h' d (set ls n line') (with_speaker r.plan f (spoken r step) r.writers))
+              e (p.put h' line' (spoken r step) same b.2);
           good = good_step r step st.good fine legal;
         },
       );
 }
 
 -- a fact that is none of a writer of the plan
-pub no_step : (l : Ledger) (ls : List Line) (m : ℕ) (f : Fact) (notes : Notes) → IsGoodFact f → ((r : Run) → StandsAt l ls r → speaker r f ≡ None) → OneStep l ls m f notes l ls notes record { fact = f; entries = []; end = Waits; ack = None }
+pub no_step : (l : Ledger) (ls : List Line) (m : ℕ) (f : Fact) (notes : Notes) → IsGoodFact f
+    → ((r : Run) → StandsAt l ls r → speaker r f ≡ None)
+    → OneStep l ls m f notes l ls notes record {
+      fact = f;
+      entries = [];
+      end = Waits;
+      ack = None;
+    }
 no_step l ls m f notes fine out = record {
   fact = refl;
   acks = sym (append-nil notes.acks.items);
@@ -187,19 +249,26 @@ no_step l ls m f notes fine out = record {
         legal,
         record {
           ledger = st.ledger;
-          lines = subst (λ ws. LinesFit r.plan r.history r.durable ls ws) (sym (with_none r.plan f (spoken r step) r.writers (out r st))) st.lines;
+          lines =
+              subst (λ ws. LinesFit r.plan r.history r.durable ls ws)
+              (sym (with_none r.plan f (spoken r step) r.writers (out r st))) st.lines;
           good = good_step r step st.good fine legal;
         },
       );
 }
 
-pub unknown : (l : Ledger) (ls : List Line) (f : Fact) (a : Address) → address_of f ≡ Some a → place_from 0 ls a ≡ None → (r : Run) → StandsAt l ls r → speaker r f ≡ None
+pub unknown : (l : Ledger) (ls : List Line) (f : Fact) (a : Address) → address_of f ≡ Some a
+    → place_from 0 ls a ≡ None → (r : Run) → StandsAt l ls r → speaker r f ≡ None
 unknown l ls f a by is r st = not_there r.plan r.history r.durable f a by 0 ls r.writers st.lines is
 
 -- a step is whole or cut off by its end
-pub heard_as : (l : Ledger) (ls : List Line) (m : ℕ) (f : Fact) (notes : Notes) (hearing : Hearing) (end : End) (l' : Ledger) (ls' : List Line) (notes' : Notes) (step : Step) → hearing ≡ hearing_of end → step.end ≡ end → OneStep l ls m f notes l' ls' notes' step → HearsTo l ls m f notes hearing l' ls' notes'
-heard_as l ls m f notes hearing end l' ls' notes' step at is one = subst (λ x. HearsTo l ls m f notes x l' ls' notes') (sym at) (as_by end is) where
-  as_by : (x : End) → step.end ≡ x → HearsTo l ls m f notes (hearing_of x) l' ls' notes'
-  as_by Waits e = (step, one, λ q. (let p = sym e ∙ q in cc))
-  as_by (Refuses n limit) e = (step, one, λ q. (let p = sym e ∙ q in cc))
-  as_by Stopped e = (step, one, e)
+pub heard_as : (l : Ledger) (ls : List Line) (m : ℕ) (f : Fact) (notes : Notes) (hearing : Hearing)
+    (end : End) (l' : Ledger) (ls' : List Line) (notes' : Notes) (step : Step)
+    → hearing ≡ hearing_of end → step.end ≡ end → OneStep l ls m f notes l' ls' notes' step
+    → HearsTo l ls m f notes hearing l' ls' notes'
+heard_as l ls m f notes hearing end l' ls' notes' step at is one =
+    subst (λ x. HearsTo l ls m f notes x l' ls' notes') (sym at) (as_by end is) where
+      as_by : (x : End) → step.end ≡ x → HearsTo l ls m f notes (hearing_of x) l' ls' notes'
+      as_by Waits e = (step, one, λ q. (let p = sym e ∙ q in cc))
+      as_by (Refuses n limit) e = (step, one, λ q. (let p = sym e ∙ q in cc))
+      as_by Stopped e = (step, one, e)

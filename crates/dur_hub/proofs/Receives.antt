@@ -37,18 +37,37 @@ use Rattle.dur_hub.proofs.Going.{moment_steps}
 use Rattle.dur_hub.proofs.Calls.{one_call}
 
 -- a writer counts as heard
-pub line_heard : (plan : Plan) (h : History) (d now : ℕ) (l : Line) (w : Writer) → LineFits plan h d l w → LineFits plan h d (record l { heard = now }) (heard_now now w)
-line_heard plan h d now l w fits = record { guid = fits.guid; shape = fits.shape; reader = fits.reader; lease = fits.lease; stored = fits.stored; proxy = fits.proxy; heard = refl; lost = fits.lost; acks = fits.acks; durable = fits.durable }
+pub line_heard : (plan : Plan) (h : History) (d now : ℕ) (l : Line) (w : Writer)
+    → LineFits plan h d l w → LineFits plan h d (record l { heard = now }) (heard_now now w)
+line_heard plan h d now l w fits = record {
+  guid = fits.guid;
+  shape = fits.shape;
+  reader = fits.reader;
+  lease = fits.lease;
+  stored = fits.stored;
+  proxy = fits.proxy;
+  heard = refl;
+  lost = fits.lost;
+  acks = fits.acks;
+  durable = fits.durable;
+}
 
-pub pairs_heard : (plan : Plan) (h : History) (d now : ℕ) (ls : List Line) (ws : List Writer) → Pairs (λ l w. LineFits plan h d l (heard_now now w)) ls ws → LinesFit plan h d ls (map (heard_now now) ws)
+pub pairs_heard : (plan : Plan) (h : History) (d now : ℕ) (ls : List Line) (ws : List Writer)
+    → Pairs (λ l w. LineFits plan h d l (heard_now now w)) ls ws
+    → LinesFit plan h d ls (map (heard_now now) ws)
 pairs_heard plan h d now [] [] fit = tt
 pairs_heard plan h d now [] (w ∷ ws) fit = fit
 pairs_heard plan h d now (l ∷ ls) [] fit = fit
 pairs_heard plan h d now (l ∷ ls) (w ∷ ws) fit = (fit.0, pairs_heard plan h d now ls ws fit.1)
 
 -- the answer of the facts
-pub answers : (l : Ledger) (ls : List Line) (m : ℕ) (facts : List Fact) (notes0 notes : Notes) (heard : Heard) (reply : Received) (l' : Ledger) (ls' : List Line) → HearsAll l ls m facts notes0 heard l' ls' notes
-    → notes0.acks.items ≡ [] → notes0.refused.items ≡ [] → (reply.acks ≡ notes.acks.items) × (reply.refused ≡ notes.refused.items) × (reply.handled ≡ heard.handled) × (reply.stopped ≡ heard.stopped) → Answers l ls m facts reply l' ls'
+pub answers : (l : Ledger) (ls : List Line) (m : ℕ) (facts : List Fact) (notes0 notes : Notes)
+    (heard : Heard) (reply : Received) (l' : Ledger) (ls' : List Line)
+    → HearsAll l ls m facts notes0 heard l' ls' notes
+    → notes0.acks.items ≡ [] → notes0.refused.items ≡ []
+    → (reply.acks ≡ notes.acks.items) × (reply.refused ≡ notes.refused.items)
+    × (reply.handled ≡ heard.handled) × (reply.stopped ≡ heard.stopped)
+    → Answers l ls m facts reply l' ls'
 answers l ls m facts notes0 notes heard reply l' ls' so acks0 refused0 same = record {
   steps = so.steps;
   cut = so.cut;
@@ -76,7 +95,8 @@ plan_steps : (r : Run) (ss : List Step) → (after_steps r ss).plan ≡ r.plan
 plan_steps r [] = refl
 plan_steps r (s ∷ ss) = plan_steps (after_step r s) ss
 
-working_steps : (r : Run) (ss : List Step) → ((after_steps r ss).working ≡ r.working) × ((after_steps r ss).stopped ≡ r.stopped)
+working_steps : (r : Run) (ss : List Step)
+    → ((after_steps r ss).working ≡ r.working) × ((after_steps r ss).stopped ≡ r.stopped)
 working_steps r [] = (refl, refl)
 working_steps r (s ∷ ss) = working_steps (after_step r s) ss
 
@@ -92,8 +112,11 @@ places_steps : (r : Run) (ss : List Step) → start (after_steps r ss).history �
 places_steps r [] = refl
 places_steps r (s ∷ ss) = places_steps (after_step r s) ss ∙ start_extend r.history s.entries
 
-places_same : (p : Plan) (v : View) (p' : Plan) (v' : View) (xs ys : List ℕ) → ys ≡ xs → p' ≡ p → v' ≡ v → PlacesFit p v.topics xs → PlacesFit p' v'.topics ys
-places_same p v p' v' xs ys same plans views fit = subst (λ l. PlacesFit p' v'.topics l) (sym same) (subst (λ q. PlacesFit q v'.topics xs) (sym plans) (subst (λ (w : View). PlacesFit p w.topics xs) (sym views) fit))
+places_same : (p : Plan) (v : View) (p' : Plan) (v' : View) (xs ys : List ℕ) → ys ≡ xs → p' ≡ p
+    → v' ≡ v → PlacesFit p v.topics xs → PlacesFit p' v'.topics ys
+places_same p v p' v' xs ys same plans views fit =
+    subst (λ l. PlacesFit p' v'.topics l) (sym same)
+    (subst (λ q. PlacesFit q v'.topics xs) (sym plans) (subst (λ (w : View). PlacesFit p w.topics xs) (sym views) fit))
 
 pub or_true : (b : Bool) → (b || true) ≡ true
 or_true true = refl
@@ -115,25 +138,39 @@ lost_most true n k is = omega (arith, is)
 lost_most false n k lt = omega (arith, lt)
 
 -- the lease step of a call
-pub begins : (old new : Hub) (m used : ℕ) (done : Bool) (ls ls' : List Line) → used ≡ max old.moment m → ls ≡ old.lines.items → new.lines.items ≡ ls'
+pub begins : (old new : Hub) (m used : ℕ) (done : Bool) (ls ls' : List Line)
+    → used ≡ max old.moment m → ls ≡ old.lines.items → new.lines.items ≡ ls'
     → StepsLease old.ledger ls old.leaving.items used old.begun done new.ledger ls' new.leaving.items
-    → SameCounts old new → new.moment ≡ used → new.begun ≡ (old.begun || done) → new.given ≡ old.given → new.acks ≡ old.acks → new.refused ≡ old.refused → Begins old m done new
+    → SameCounts old new → new.moment ≡ used → new.begun ≡ (old.begun || done)
+    → new.given ≡ old.given → new.acks ≡ old.acks → new.refused ≡ old.refused
+    → Begins old m done new
 begins old new m used done ls ls' used_is lines lines2 lease same moment begun given acks refused = record {
   count = lease.count;
   holds = λ r here.
       let r1 : Run = at_moment m r in
-      let st : StandsAt old.ledger ls r1 = record { ledger = here.at.ledger; lines = subst (λ k. LinesFit r.plan r.history r.durable k r.writers) (sym lines) here.at.lines; good = good_moment r m here.at.good } in
+      let st : StandsAt old.ledger ls r1 = record {
+        ledger = here.at.ledger;
+        lines =
+            subst (λ k. LinesFit r.plan r.history r.durable k r.writers) (sym lines) here.at.lines;
+        good = good_moment r m here.at.good;
+      } in
       let is : r1.moment ≡ used = sym (used_is ∙ ap (λ n. max n m) here.moment) in
-      let b = lease.holds r1 st is (sym here.begun) (leaving_moment r m old.leaving.items here.leaving) in
+      let b =
+      lease.holds r1 st is (sym here.begun) (leaving_moment r m old.leaving.items here.leaving) in
       let n : ℕ = lease.count in
       let r2 : Run = after_lease r1 n in (
         b.0,
         record {
           at = subst (λ k. StandsAt new.ledger k r2) (sym lines2) b.1;
           plan = same.plan ∙ here.plan;
-          places = places_same r.plan (start r.history) r.plan (start r2.history) old.places new.places same.places refl (start_extend r.history (map (Lost r1.moment) (take n (leavers r1)))) here.places;
+          places =
+              places_same r.plan (start r.history) r.plan (start r2.history) old.places new.places
+              same.places refl
+              (start_extend r.history (map (Lost r1.moment) (take n (leavers r1)))) here.places;
           moment = moment ∙ sym is;
-          begun = begun ∙ ap (λ x. x || done) here.begun ∙ ap (λ x. r.begun || x) (sym (lost_done done n (length (leavers r1)) b.0));
+          begun =
+              begun ∙ ap (λ x. x || done) here.begun
+              ∙ ap (λ x. r.begun || x) (sym (lost_done done n (length (leavers r1)) b.0));
           given = ap (λ v. v.items) given ∙ here.given;
           leaving = b.2;
           acks = acks ∙ here.acks;
@@ -145,9 +182,12 @@ begins old new m used done ls ls' used_is lines lines2 lease same moment begun g
 }
 
 -- the facts of a call
-pub answers_facts : (old new : Hub) (facts : List Fact) (reply : Received) (ls ls' : List Line) → ls ≡ old.lines.items → new.lines.items ≡ ls' → Answers old.ledger ls old.moment facts reply new.ledger ls'
+pub answers_facts : (old new : Hub) (facts : List Fact) (reply : Received) (ls ls' : List Line)
+    → ls ≡ old.lines.items → new.lines.items ≡ ls'
+    → Answers old.ledger ls old.moment facts reply new.ledger ls'
     → SameCounts old new → new.moment ≡ old.moment → new.begun ≡ old.begun → new.given ≡ old.given
-    → new.acks ≡ (old.acks + length reply.acks) % 2 ^ 64 → new.refused ≡ (old.refused + length reply.refused) % 2 ^ 64 → AnswersFacts old facts reply new
+    → new.acks ≡ (old.acks + length reply.acks) % 2 ^ 64
+    → new.refused ≡ (old.refused + length reply.refused) % 2 ^ 64 → AnswersFacts old facts reply new
 answers_facts old new facts reply ls ls' lines lines2 a same moment begun given acks refused = record {
   steps = a.steps;
   cut = a.cut;
@@ -155,19 +195,23 @@ answers_facts old new facts reply ls ls' lines lines2 a same moment begun given 
   whole = a.whole;
   holds = λ r here all.
       let ss : List Step = a.steps ++ a.cut in
-      let d = a.holds r (subst (λ k. StandsAt old.ledger k r) (sym lines) here.at) (sym here.moment) in
+      let d =
+      a.holds r (subst (λ k. StandsAt old.ledger k r) (sym lines) here.at) (sym here.moment) in
       let r3 : Run = after_steps r ss in (
         d.0,
         record {
           at = subst (λ k. StandsAt new.ledger k r3) (sym lines2) d.1;
           plan = same.plan ∙ here.plan ∙ sym (plan_steps r ss);
-          places = places_same r.plan (start r.history) r3.plan (start r3.history) old.places new.places same.places (plan_steps r ss) (places_steps r ss) here.places;
+          places =
+              places_same r.plan (start r.history) r3.plan (start r3.history) old.places new.places
+              same.places (plan_steps r ss) (places_steps r ss) here.places;
           moment = moment ∙ here.moment ∙ sym (moment_steps r ss);
           begun = begun ∙ here.begun ∙ sym (begun_steps r ss);
           given = ap (λ v. v.items) given ∙ here.given ∙ sym (given_steps r ss);
           leaving = λ no1. absurd (let q = begun_steps r ss ∙ all in cc);
           acks = omega (arith, acks, here.acks, acks_steps r ss, ap length a.tells.acks);
-          refused = omega (arith, refused, here.refused, refused_steps r ss, ap length a.tells.refused);
+          refused =
+              omega (arith, refused, here.refused, refused_steps r ss, ap length a.tells.refused);
           working = same.working ∙ here.working ∙ sym (working_steps r ss).0;
           stopped = same.stopped ∙ here.stopped ∙ sym (working_steps r ss).1;
         },
@@ -175,11 +219,16 @@ answers_facts old new facts reply ls ls' lines lines2 a same moment begun given 
 }
 
 -- once all are lost the first step is done
-pub begun_after : (r : Run) (m n : ℕ) → AreLost true n (length (leavers (at_moment m r))) → (after_lease (at_moment m r) n).begun ≡ true
-begun_after r m n is = ap (λ x. r.begun || x) (lost_done true n (length (leavers (at_moment m r))) is) ∙ or_true r.begun
+pub begun_after : (r : Run) (m n : ℕ) → AreLost true n (length (leavers (at_moment m r)))
+    → (after_lease (at_moment m r) n).begun ≡ true
+begun_after r m n is =
+    ap (λ x. r.begun || x) (lost_done true n (length (leavers (at_moment m r))) is)
+    ∙ or_true r.begun
 
 -- all of it
-pub receives : (old mid new : Hub) (m : ℕ) (facts : List Fact) (reply : Received) → AreGood facts → Begins old m true mid → AnswersFacts mid facts reply new → (e : Event) × TellsReceive m facts reply e × Adds old e new
+pub receives : (old mid new : Hub) (m : ℕ) (facts : List Fact) (reply : Received) → AreGood facts
+    → Begins old m true mid → AnswersFacts mid facts reply new
+    → (e : Event) × TellsReceive m facts reply e × Adds old e new
 receives old mid new m facts reply fine lease a =
     let ss : List Step = a.steps ++ a.cut in
     let e : Event = call.Receive m lease.count a.steps a.cut reply.stopped in (
@@ -201,11 +250,24 @@ receives old mid new m facts reply fine lease a =
     )
 
 -- there was no memory in the lease step
-pub receives_none : (old new : Hub) (m : ℕ) (facts : List Fact) (reply : Received) → Begins old m false new → IsStopped reply → (e : Event) × TellsReceive m facts reply e × Adds old e new
+pub receives_none : (old new : Hub) (m : ℕ) (facts : List Fact) (reply : Received)
+    → Begins old m false new → IsStopped reply
+    → (e : Event) × TellsReceive m facts reply e × Adds old e new
 receives_none old new m facts reply lease same =
     let e : Event = call.Receive m lease.count [] [] reply.stopped in (
       e,
-      (refl, refl, record { rest = facts; told = refl; left = subst (λ x. IsLeft x [] facts) (sym same.stopped) tt; handled = same.handled; acks = same.acks; refused = same.refused }),
+      (
+        refl,
+        refl,
+        record {
+          rest = facts;
+          told = refl;
+          left = subst (λ x. IsLeft x [] facts) (sym same.stopped) tt;
+          handled = same.handled;
+          acks = same.acks;
+          refused = same.refused;
+        },
+      ),
       one_call old new e (λ r here.
           let b = lease.holds r here in
           (record { good = tt; leased = inr (b.0, refl, same.stopped); legal = tt; whole = tt; left = subst (λ x. IsLeft x [] []) (sym same.stopped) tt }, b.1)),

@@ -21,7 +21,8 @@ use Rattle.dur_hub.specs.Runs.{Writer}
 
 -- A HEARTBEAT asks where it is not final, or where its last number is at least the writer's next one. What asks is its last number.
 abbrev pub asks : Fact → ℕ → Option ℕ
-asks (fact.Beat w reader first last is_final) next = if not is_final || nat_le next last then Some last else None
+asks (fact.Beat w reader first last is_final) next =
+    if not is_final || nat_le next last then Some last else None
 asks f next = None
 
 -- what asks of a fact that was handled up to this end: nothing of one that was cut off

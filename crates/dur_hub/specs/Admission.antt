@@ -25,13 +25,16 @@ IsNext s w m (Lost at u) = ⊥
 abbrev pub Ends : Story → History → Guid → ℕ → End → Type 0
 Ends s h w m Waits = known s (next s) ≡ Unknown
 Ends s h w m (Refuses n limit) =
-    (n ≡ next s) × ((x : Sample) × (known s (next s) ≡ With x) × (refused h (Took m w (next s) x) ≡ Some limit))
+    (n ≡ next s)
+    × ((x : Sample) × (known s (next s) ≡ With x) × (refused h (Took m w (next s) x) ≡ Some limit))
 Ends s h w m Stopped = Unit {0}
 
 -- The entries of a writer's numbers from its next one on, each once and in order, and where they end.
 abbrev pub Handles : Story → History → Guid → ℕ → List Entry → End → Type 0
 Handles s h w m [] end = Ends s h w m end
-Handles s h w m (e ∷ es) end = IsNext s w m e × HasShortNumber e × (refused h e ≡ None) × Handles (with_entry s e) (h ▸ e) w m es end
+Handles s h w m (e ∷ es) end =
+    IsNext s w m e × HasShortNumber e × (refused h e ≡ None)
+    × Handles (with_entry s e) (h ▸ e) w m es end
 
 -- the story after the handling ended: a refused number is not known any more
 abbrev pub after_end : Story → End → Story

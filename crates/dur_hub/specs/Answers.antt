@@ -28,7 +28,8 @@ pub record TellsOf (facts : List Fact) (reply : Received) (steps cut : List Step
   pub refused : reply.refused ≡ refusals_of (steps ++ cut)
 
 abbrev pub TellsReceive : ℕ → List Fact → Received → Event → Type 0
-TellsReceive m facts reply (call.Receive at lost steps cut stopped) = (at ≡ m) × (stopped ≡ reply.stopped) × TellsOf facts reply steps cut
+TellsReceive m facts reply (call.Receive at lost steps cut stopped) =
+    (at ≡ m) × (stopped ≡ reply.stopped) × TellsOf facts reply steps cut
 TellsReceive m facts reply e = ⊥
 
 -- What the facts of a call do, and its answer.
@@ -37,7 +38,8 @@ pub record Answers (l : Ledger) (ls : List Line) (m : ℕ) (facts : List Fact) (
   pub cut : List Step
   pub tells : TellsOf facts reply steps cut
   pub whole : AllWhole steps
-  pub holds : (r : Run) → StandsAt l ls r → r.moment ≡ m → LegalSteps r (steps ++ cut) × StandsAt l' ls' (after_steps r (steps ++ cut))
+  pub holds : (r : Run) → StandsAt l ls r → r.moment ≡ m
+      → LegalSteps r (steps ++ cut) × StandsAt l' ls' (after_steps r (steps ++ cut))
 
 -- the answer of a call that did no more than its lease step, for want of memory
 pub record IsStopped (reply : Received) : Type 0 where
@@ -50,7 +52,8 @@ pub record IsStopped (reply : Received) : Type 0 where
 pub record Begins (old : Hub) (m : ℕ) (done : Bool) (new : Hub) : Type 0 where
   pub count : ℕ
   pub holds : (r : Run) → HubAt old r →
-      AreLost done count (length (leavers (at_moment m r))) × HubAt new (after_lease (at_moment m r) count)
+      AreLost done count (length (leavers (at_moment m r)))
+      × HubAt new (after_lease (at_moment m r) count)
 
 -- What the facts of a call do to a hub, and its answer.
 pub record AnswersFacts (old : Hub) (facts : List Fact) (reply : Received) (new : Hub) : Type 0 where

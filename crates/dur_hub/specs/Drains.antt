@@ -30,8 +30,10 @@ pub record MayAdd (h : History) (s : Story) (w : Guid) (stored : Bool) (m : ℕ)
 -- What one number does: its entry is admitted, or the numbers end here.
 abbrev pub Turns : Ledger → Window → Guid → Bool → ℕ → Turned → Ledger → Window → Type 0
 Turns l p w stored m More l' p' =
-    (e : Entry) × ((h : History) (t d : ℕ) (s : Story) → LedgerAt l h t d → Fits p s → MayAdd h s w stored m →
-    IsNext s w m e × HasShortNumber e × (refused h e ≡ None) × LedgerAt l' (h ▸ e) t d × Fits p' (with_entry s e))
+    (e : Entry)
+    × ((h : History) (t d : ℕ) (s : Story) → LedgerAt l h t d → Fits p s → MayAdd h s w stored m →
+    IsNext s w m e × HasShortNumber e × (refused h e ≡ None) × LedgerAt l' (h ▸ e) t d
+    × Fits p' (with_entry s e))
 Turns l p w stored m (Done end) l' p' =
     (h : History) (t d : ℕ) (s : Story) → LedgerAt l h t d → Fits p s → MayAdd h s w stored m →
     Ends s h w m end × LedgerAt l' h t d × Fits p' (after_end s end)
@@ -44,8 +46,10 @@ Grows (Done end) n n' = Unit {0}
 -- What the numbers of a writer do: these entries are admitted.
 pub record Drains (l : Ledger) (p : Window) (w : Guid) (stored : Bool) (m : ℕ) (end : End) (l' : Ledger) (p' : Window) : Type 0 where
   pub entries : List Entry
-  pub holds : (h : History) (t d : ℕ) (s : Story) → LedgerAt l h t d → Fits p s → MayAdd h s w stored m →
-      Handles s h w m entries end × LedgerAt l' (h +> entries) t d × Fits p' (after_handling s entries end)
+  pub holds : (h : History) (t d : ℕ) (s : Story) → LedgerAt l h t d → Fits p s
+      → MayAdd h s w stored m →
+      Handles s h w m entries end × LedgerAt l' (h +> entries) t d
+      × Fits p' (after_handling s entries end)
 
 -- a skip of these numbers is ready
 pub record IsReadySkip (p : Window) (from to : ℕ) : Type 0 where

@@ -47,4 +47,6 @@ acks_in (e ∷ es) = acks_by e ++ acks_in es
 -- covers all numbers below it.
 abbrev pub Covered : History → ℕ → List Ack → Type 0
 Covered h d [] = Unit {0}
-Covered h d (a ∷ acks) = (is_stored (start h) a.writer ≡ true → a.set.base ≤ next (durable_part h d) a.writer) × Covered h d acks
+Covered h d (a ∷ acks) =
+    (is_stored (start h) a.writer ≡ true → a.set.base ≤ next (durable_part h d) a.writer)
+    × Covered h d acks

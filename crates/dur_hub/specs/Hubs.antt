@@ -40,7 +40,8 @@ pub record Stands (start : Run) (log : List Event) (hub : Hub) : Type 0 where
 
 -- What a call does: whatever the hub stood for, it stands for that and this event.
 abbrev pub Adds : Hub → Event → Hub → Type 0
-Adds old e new = (start : Run) (log : List Event) → Stands start log old → Stands start (log ++ e ∷ []) new
+Adds old e new =
+    (start : Run) (log : List Event) → Stands start log old → Stands start (log ++ e ∷ []) new
 
 -- It stands for some list.
 abbrev pub StandsForSome : Hub → Type 0

@@ -28,7 +28,8 @@ AreLeaving r leaving = r.begun ≡ false → leaving ≡ map (leaver_of (start r
 
 -- whether the writer at a place is registered with a key of a view
 abbrev pub is_registered_in : View → ℕ → Bool
-is_registered_in v i = list_any (λ (line : Instance). list_any (λ r. r == i) line.registered) v.instances
+is_registered_in v i =
+    list_any (λ (line : Instance). list_any (λ r. r == i) line.registered) v.instances
 
 -- What is kept of the writers that are left behind among those of a view from a place on.
 abbrev pub left_from : Plan → View → ℕ → List KeptWriter → List Leaver
@@ -53,5 +54,6 @@ pub record LosesLeft (l : Ledger) (leaving : List Leaver) (m : ℕ) (done : Bool
   pub count : ℕ
   pub left : leaving' ≡ drop count leaving
   pub lost : AreLost done count (length leaving)
-  pub holds : (h : History) (t d : ℕ) (gs : List Guid) → LedgerAt l h t d → leaving ≡ map (leaver_of (start h)) gs
+  pub holds : (h : History) (t d : ℕ) (gs : List Guid) → LedgerAt l h t d
+      → leaving ≡ map (leaver_of (start h)) gs
       → moment h ≤ m → AllStand (start h) gs → LedgerAt l' (h +> map (Lost m) (take count gs)) t d

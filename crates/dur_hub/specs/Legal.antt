@@ -46,7 +46,8 @@ facts_of ss = map (λ (s : Step). s.fact) ss
 
 -- the lease step lost all that leave, or it ended before that for want of memory, and nothing came after it
 abbrev pub IsLeased : ℕ → List Guid → Bool → List Step → Type 0
-IsLeased n leaving stopped ss = (n ≡ length leaving) ⊎ ((n < length leaving) × (ss ≡ []) × (stopped ≡ true))
+IsLeased n leaving stopped ss =
+    (n ≡ length leaving) ⊎ ((n < length leaving) × (ss ≡ []) × (stopped ≡ true))
 
 -- What a `receive` does: the lease step, then each fact in order; after want of memory it is a first part of that.
 pub record LegalReceive (r : Run) (lost : ℕ) (steps cut : List Step) (stopped : Bool) : Type 0 where
@@ -63,15 +64,19 @@ after_receive r lost ss = after_steps (after_lease r lost) ss
 
 -- it is given after a whole lease step; it is refused before it, but for want of memory
 abbrev pub LegalSnapshot : Run → ℕ → Guid → ℕ → Result Snapshot SnapFault → Type 0
-LegalSnapshot r m g lost (Ok s) = (refusal r.plan r.given g ≡ None) × (lost ≡ length (leavers (at_moment m r))) × IsReplay (after_lease (at_moment m r) lost) g s.changes
-LegalSnapshot r m g lost (Err fault.OutOfMemory) = (refusal r.plan r.given g ≡ None) × (lost ≤ length (leavers (at_moment m r)))
+LegalSnapshot r m g lost (Ok s) =
+    (refusal r.plan r.given g ≡ None) × (lost ≡ length (leavers (at_moment m r)))
+    × IsReplay (after_lease (at_moment m r) lost) g s.changes
+LegalSnapshot r m g lost (Err fault.OutOfMemory) =
+    (refusal r.plan r.given g ≡ None) × (lost ≤ length (leavers (at_moment m r)))
 LegalSnapshot r m g lost (Err fault.Unknown) = refusal r.plan r.given g ≡ Some fault.Unknown
 LegalSnapshot r m g lost (Err fault.NotServed) = refusal r.plan r.given g ≡ Some fault.NotServed
 LegalSnapshot r m g lost (Err fault.Already) = refusal r.plan r.given g ≡ Some fault.Already
 
 -- for want of memory no replay counts as given; any other refusal changes nothing
 abbrev pub after_snapshot : Run → ℕ → Guid → ℕ → Result Snapshot SnapFault → Run
-after_snapshot r m g lost (Ok s) = record (after_lease (at_moment m r) lost) { given = r.given ++ g ∷ [] }
+after_snapshot r m g lost (Ok s) =
+    record (after_lease (at_moment m r) lost) { given = r.given ++ g ∷ [] }
 after_snapshot r m g lost (Err fault.OutOfMemory) = after_lease (at_moment m r) lost
 after_snapshot r m g lost (Err fault.Unknown) = r
 after_snapshot r m g lost (Err fault.NotServed) = r
@@ -89,7 +94,8 @@ with_taken r b = record r { taken = r.taken + length b.entries }
 
 -- all of them, and the view after them
 abbrev pub LegalView : Run → Result (Batch × View) OutOfMemory → Type 0
-LegalView r (Ok given) = IsBatch r (length (stored r.history)) given.0 × (given.1 ≡ view (persistent r.history) r.moment)
+LegalView r (Ok given) =
+    IsBatch r (length (stored r.history)) given.0 × (given.1 ≡ view (persistent r.history) r.moment)
 LegalView r (Err e) = Unit {0}
 
 abbrev pub after_view : Run → Result (Batch × View) OutOfMemory → Run
@@ -104,7 +110,8 @@ named d upto = d + (upto + 2 ^ 64 - d % 2 ^ 64) % 2 ^ 64
 
 -- A call is legal where the run stands.
 abbrev pub LegalAt : Run → Event → Type 0
-LegalAt r (call.Receive m lost steps cut stopped) = LegalReceive (at_moment m r) lost steps cut stopped
+LegalAt r (call.Receive m lost steps cut stopped) =
+    LegalReceive (at_moment m r) lost steps cut stopped
 LegalAt r (call.Snapshot m g lost reply) = LegalSnapshot r m g lost reply
 LegalAt r (call.Take b) = IsBatch r 4096 b
 LegalAt r (call.TakeView reply) = LegalView r reply

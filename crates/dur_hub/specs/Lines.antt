@@ -32,7 +32,8 @@ pub record LineFits (plan : Plan) (h : History) (d : ℕ) (line : Line) (w : Wri
   pub heard : line.heard ≡ w.heard
   pub lost : line.lost ≡ w.lost
   pub acks : line.acks ≡ w.acks
-  pub durable : is_stored (start h) w.line.guid ≡ true → line.durable ≡ next_in (durable_part h d) w.line.guid
+  pub durable : is_stored (start h) w.line.guid ≡ true
+      → line.durable ≡ next_in (durable_part h d) w.line.guid
 
 -- each line fits the writer at its place
 abbrev pub Pairs : (Line → Writer → Type 0) → List Line → List Writer → Type 0
@@ -53,7 +54,8 @@ beat_of f = None
 -- what an acknowledgement needs: the next number is the history's, and the durable ones are none above it
 pub record MayAnswer (h : History) (d : ℕ) (w : Writer) : Type 0 where
   pub same : next w.story ≡ next_in h w.line.guid
-  pub low : is_stored (start h) w.line.guid ≡ true → next_in (durable_part h d) w.line.guid ≤ next_in h w.line.guid
+  pub low : is_stored (start h) w.line.guid ≡ true
+      → next_in (durable_part h d) w.line.guid ≤ next_in h w.line.guid
 
 abbrev pub step_of : Fact → List Entry → Heeded → Step
 step_of f es x = record { fact = f; entries = es; end = x.end; ack = x.ack }
@@ -61,5 +63,8 @@ step_of f es x = record { fact = f; entries = es; end = x.end; ack = x.ack }
 -- What a fact of its writer does to a line and the ledger.
 pub record Speaks (l : Ledger) (line : Line) (m : ℕ) (f : Fact) (x : Heeded) (l' : Ledger) (line' : Line) : Type 0 where
   pub entries : List Entry
-  pub holds : (r : Run) (w : Writer) → LedgerAt l r.history r.taken r.durable → LineFits r.plan r.history r.durable line w → GoodWriter r.history r.plan w → IsHistory r.history → moment r.history ≤ r.moment → r.moment ≡ m →
-      Hears r w (step_of f entries x) × LedgerAt l' (r.history +> entries) r.taken r.durable × LineFits r.plan (r.history +> entries) r.durable line' (spoken r (step_of f entries x) w)
+  pub holds : (r : Run) (w : Writer) → LedgerAt l r.history r.taken r.durable
+      → LineFits r.plan r.history r.durable line w → GoodWriter r.history r.plan w
+      → IsHistory r.history → moment r.history ≤ r.moment → r.moment ≡ m →
+      Hears r w (step_of f entries x) × LedgerAt l' (r.history +> entries) r.taken r.durable
+      × LineFits r.plan (r.history +> entries) r.durable line' (spoken r (step_of f entries x) w)

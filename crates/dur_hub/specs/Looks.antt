@@ -16,20 +16,24 @@ is_late line now = not line.lost && is_past line.lease line.heard now
 abbrev pub overdue_upto : ℕ → ℕ → List Writer → ℕ
 overdue_upto now zero ws = 0
 overdue_upto now (suc i) [] = 0
-overdue_upto now (suc i) (w ∷ ws) = if is_overdue now w then overdue_upto now i ws + 1 else overdue_upto now i ws
+overdue_upto now (suc i) (w ∷ ws) =
+    if is_overdue now w then overdue_upto now i ws + 1 else overdue_upto now i ws
 
 -- the first i lines were looked at, and the overdue ones among them lost
 pub record LookedAt (l : Ledger) (ls : List Line) (m i : ℕ) (l' : Ledger) (ls' : List Line) : Type 0 where
   pub count : ℕ
-  pub holds : (r : Run) → StandsAt l ls r → r.moment ≡ m → r.begun ≡ true → (count ≡ overdue_upto m i r.writers) × StandsAt l' ls' (after_lease r count)
+  pub holds : (r : Run) → StandsAt l ls r → r.moment ≡ m → r.begun ≡ true
+      → (count ≡ overdue_upto m i r.writers) × StandsAt l' ls' (after_lease r count)
 
 -- What a lease step does.
 pub record Leases (l : Ledger) (ls : List Line) (m : ℕ) (done : Bool) (l' : Ledger) (ls' : List Line) : Type 0 where
   pub count : ℕ
-  pub holds : (r : Run) → StandsAt l ls r → r.moment ≡ m → r.begun ≡ true → AreLost done count (length (leavers r)) × StandsAt l' ls' (after_lease r count)
+  pub holds : (r : Run) → StandsAt l ls r → r.moment ≡ m → r.begun ≡ true
+      → AreLost done count (length (leavers r)) × StandsAt l' ls' (after_lease r count)
 
 -- The same for the step of any call: the first one, or a later one.
 pub record StepsLease (l : Ledger) (ls : List Line) (leaving : List Leaver) (m : ℕ) (begun done : Bool) (l' : Ledger) (ls' : List Line) (leaving' : List Leaver) : Type 0 where
   pub count : ℕ
   pub holds : (r : Run) → StandsAt l ls r → r.moment ≡ m → r.begun ≡ begun → AreLeaving r leaving
-      → AreLost done count (length (leavers r)) × StandsAt l' ls' (after_lease r count) × AreLeaving (after_lease r count) leaving'
+      → AreLost done count (length (leavers r)) × StandsAt l' ls' (after_lease r count)
+      × AreLeaving (after_lease r count) leaving'

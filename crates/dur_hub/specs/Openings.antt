@@ -15,7 +15,8 @@ use Rattle.dur_hub.specs.Telling.{topic_in}
 -- a declared writer that the view keeps has one and the same topic in both
 abbrev pub HasOneTopic : Plan → View → WriterLine → Type 0
 HasOneTopic plan v w =
-    (line : KeptWriter) → writer_line v.writers w.guid ≡ Some line → slice_get v.topics line.topic ≡ slice_get plan.topics w.topic
+    (line : KeptWriter) → writer_line v.writers w.guid ≡ Some line
+    → slice_get v.topics line.topic ≡ slice_get plan.topics w.topic
 
 -- The plan is good and the view sound; each topic of the view stands in the plan with the same settings, and the plan declares
 -- none of its writers under another topic.

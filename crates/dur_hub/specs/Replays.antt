@@ -30,7 +30,8 @@ is_served line topic = nat_le 2 (rank line.kind) && nat_le (rank line.kind) (ran
 
 -- whether its topic of the plan is one that serves it
 abbrev pub is_served_in : Plan → ReaderLine → Bool
-is_served_in plan line = unwrap_or (option_map (is_served line) (slice_get plan.topics line.topic)) false
+is_served_in plan line =
+    unwrap_or (option_map (is_served line) (slice_get plan.topics line.topic)) false
 
 abbrev pub refusal_by : Plan → List Guid → Guid → Option ReaderLine → Option SnapFault
 refusal_by plan given g None = Some Unknown

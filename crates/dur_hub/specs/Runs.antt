@@ -39,7 +39,13 @@ pub record Run : Type 0 where
 
 -- a writer of the plan of which nothing came yet
 abbrev pub first_writer : View → WriterLine → Writer
-first_writer v line = record { line = line; story = Begin (next (Start v) line.guid); heard = 0; lost = false; acks = 0 }
+first_writer v line = record {
+  line = line;
+  story = Begin (next (Start v) line.guid);
+  heard = 0;
+  lost = false;
+  acks = 0;
+}
 
 -- The run that has no call yet, over this view with all that the plan declares.
 abbrev pub opening : Plan → View → ℕ → Run

@@ -42,7 +42,9 @@ impl Hub {
     /// Notes that all entries up to this count, modulo 2^64, are durable. Condition: it is one from that of the last
     /// `mark`, or 0, to that of the entries handed out. It takes no memory.
     pub fn mark(&mut self, upto: u64)
-        ensures { (start : Run) (log : List Event) → Stands start log self.old → LegalAt (run_after start log) (Mark upto) → Stands start (log ++ Mark upto ∷ []) self.new }
+        ensures { (start : Run) (log : List Event) → Stands start log self.old
+            → LegalAt (run_after start log) (Mark upto)
+            → Stands start (log ++ Mark upto ∷ []) self.new }
     {
         let count = upto.wrapping_sub(self.ledger.queue.durable);
         pass_all(&mut self.ledger.queue, &mut self.lines, count);

@@ -25,28 +25,28 @@ use std::collections::VecDeque;
 /// One hub. Contracts tell it by the lists of calls that it stands for (`Stands`).
 #[derive(Drop)]
 pub struct Hub {
-    pub plan: Plan,
-    pub ledger: Ledger,
+    pub(crate) plan: Plan,
+    pub(crate) ledger: Ledger,
     /// The writers of the plan, in its order.
-    pub lines: Vec<Line>,
+    pub(crate) lines: Vec<Line>,
     /// The store's place of each topic of the plan.
-    pub places: List<u32>,
+    pub(crate) places: List<u32>,
     /// The last moment that was used.
-    pub moment: Ticks,
+    pub(crate) moment: Ticks,
     /// Whether the first lease step is done.
-    pub begun: bool,
+    pub(crate) begun: bool,
     /// The readers to whom a snapshot was given.
-    pub given: Vec<Guid>,
+    pub(crate) given: Vec<Guid>,
     /// Those that the first lease step still has to lose.
-    pub leaving: VecDeque<Leaver>,
+    pub(crate) leaving: VecDeque<Leaver>,
     /// How many acknowledgements were given, modulo 2^64.
-    pub acks: u64,
+    pub(crate) acks: u64,
     /// How many refusals were answered, modulo 2^64.
-    pub refused: u64,
+    pub(crate) refused: u64,
     /// How many work.
-    pub working: u32,
+    pub(crate) working: u32,
     /// Whether they are to end.
-    pub stopped: bool,
+    pub(crate) stopped: bool,
 }
 
 fn either(a: bool, b: bool) -> bool
@@ -57,7 +57,8 @@ fn either(a: bool, b: bool) -> bool
 
 // The answer of a call.
 fn answer(notes: Notes, handled: usize, stopped: bool) -> Received
-    ensures { (result.acks ≡ notes.acks.items) × (result.refused ≡ notes.refused.items) × (result.handled ≡ handled) × (result.stopped ≡ stopped) }
+    ensures { (result.acks ≡ notes.acks.items) × (result.refused ≡ notes.refused.items)
+        × (result.handled ≡ handled) × (result.stopped ≡ stopped) }
 {
     let Notes { acks, refused } = notes;
     Received {

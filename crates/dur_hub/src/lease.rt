@@ -39,9 +39,14 @@ fn is_overdue(line: &Line, now: Ticks) -> bool
 
 // Loses the line's writer where it is overdue. False: there was no memory for it.
 fn look(ledger: &mut Ledger, line: &mut Line, moment: Ticks) -> bool
-    ensures less { is_late line.old moment ≡ false → (result ≡ true) × (ledger.new ≡ ledger.old) × (line.new ≡ line.old) }
-    ensures more { is_late line.old moment ≡ true → result ≡ true → (line.new ≡ record line.old { lost = true }) × ((h : History) (t d : ℕ) → LedgerAt ledger.old h t d → line.old.stored ≡ is_stored (start h) line.old.guid → Follows h (Lost moment line.old.guid) → LedgerAt ledger.new (h ▸ Lost moment line.old.guid) t d) }
-    ensures stopped { result ≡ false → (is_late line.old moment ≡ true) × (line.new ≡ line.old) × ((h : History) (t d : ℕ) → LedgerAt ledger.old h t d → LedgerAt ledger.new h t d) }
+    ensures less { is_late line.old moment ≡ false
+        → (result ≡ true) × (ledger.new ≡ ledger.old) × (line.new ≡ line.old) }
+    ensures more { is_late line.old moment ≡ true → result ≡ true
+        → (line.new ≡ record line.old { lost = true })
+        × ((h : History) (t d : ℕ) → LedgerAt ledger.old h t d → line.old.stored ≡ is_stored (start h) line.old.guid → Follows h (Lost moment line.old.guid) → LedgerAt ledger.new (h ▸ Lost moment line.old.guid) t d) }
+    ensures stopped { result ≡ false
+        → (is_late line.old moment ≡ true) × (line.new ≡ line.old)
+        × ((h : History) (t d : ℕ) → LedgerAt ledger.old h t d → LedgerAt ledger.new h t d) }
 {
     if !is_overdue(line, moment) {
         return true;
@@ -70,7 +75,8 @@ pub fn lose_overdue(ledger: &mut Ledger, lines: &mut [Line], moment: Ticks) -> b
 
 // Notes that the lines' writers count as heard now.
 fn hear_lines(lines: &mut [Line], moment: Ticks)
-    ensures { (plan : Plan) (h : History) (d : ℕ) (ws : List Writer) → LinesFit plan h d lines.old ws → LinesFit plan h d lines.new (map (heard_now moment) ws) }
+    ensures { (plan : Plan) (h : History) (d : ℕ) (ws : List Writer)
+        → LinesFit plan h d lines.old ws → LinesFit plan h d lines.new (map (heard_now moment) ws) }
 {
     for i in 0..lines.len() {
         let line = &mut lines[i];

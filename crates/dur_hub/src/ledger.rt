@@ -64,7 +64,9 @@ impl Ledger {
         requires { HasShortNumber entry }
         ensures ok { OnOk result ((h : History) (t d : ℕ) → LedgerAt self.old h t d → stored ≡ is_stored (start h) (writer_of entry) → Follows h entry → LedgerAt self.new (h ▸ entry) t d × (refused h entry ≡ None)) }
         ensures err { OnErr result ((h : History) (t d : ℕ) → LedgerAt self.old h t d → LedgerAt self.new h t d) }
-        ensures limit { (limit : Limit) → result ≡ Err (Refused.Limit limit) → (h : History) (t d : ℕ) → LedgerAt self.old h t d → Follows h entry → refused h entry ≡ Some limit }
+        ensures limit { (limit : Limit) → result ≡ Err (Refused.Limit limit)
+            → (h : History) (t d : ℕ) → LedgerAt self.old h t d → Follows h entry
+            → refused h entry ≡ Some limit }
     {
         let alloc = self.queue.alloc();
         if !stored {

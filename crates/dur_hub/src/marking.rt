@@ -26,14 +26,18 @@ fn passed_number(is_own: bool, next: Option<Number>, before: Number) -> Number
 
 // Notes in a line that one more entry is durable.
 fn pass_line(line: &mut Line, passed: &Passed)
-    ensures { (plan : Plan) (h : History) (d : ℕ) (e : Entry) (w : Writer) → IsAt (stored h) d e → passed.now ≡ passed_by e → LineFits plan h d line.old w → LineFits plan h (d + 1) line.new w }
+    ensures { (plan : Plan) (h : History) (d : ℕ) (e : Entry) (w : Writer) → IsAt (stored h) d e
+        → passed.now ≡ passed_by e → LineFits plan h d line.old w
+        → LineFits plan h (d + 1) line.new w }
 {
     line.durable = passed_number(passed.writer == line.guid, passed.next, line.durable);
 }
 
 // Notes in the lines that one more entry is durable.
 fn pass_one(lines: &mut [Line], passed: &Passed)
-    ensures { (plan : Plan) (h : History) (d : ℕ) (e : Entry) (ws : List Writer) → IsAt (stored h) d e → passed.now ≡ passed_by e → LinesFit plan h d lines.old ws → LinesFit plan h (d + 1) lines.new ws }
+    ensures { (plan : Plan) (h : History) (d : ℕ) (e : Entry) (ws : List Writer)
+        → IsAt (stored h) d e → passed.now ≡ passed_by e → LinesFit plan h d lines.old ws
+        → LinesFit plan h (d + 1) lines.new ws }
 {
     for i in 0..lines.len() {
         pass_line(&mut lines[i], passed);
@@ -42,7 +46,9 @@ fn pass_one(lines: &mut [Line], passed: &Passed)
 
 /// Notes that the next `count` entries are durable.
 pub fn pass_all(queue: &mut Queue, lines: &mut [Line], count: u64)
-    ensures { (plan : Plan) (h : History) (t d : ℕ) (ws : List Writer) → Queued queue.old t d (stored h) → d + count ≤ t → LinesFit plan h d lines.old ws → Queued queue.new t (d + count) (stored h) × LinesFit plan h (d + count) lines.new ws }
+    ensures { (plan : Plan) (h : History) (t d : ℕ) (ws : List Writer)
+        → Queued queue.old t d (stored h) → d + count ≤ t → LinesFit plan h d lines.old ws
+        → Queued queue.new t (d + count) (stored h) × LinesFit plan h (d + count) lines.new ws }
 {
     for _ in 0..count {
         match queue.pop() {

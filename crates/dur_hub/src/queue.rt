@@ -99,7 +99,10 @@ impl Queue {
 
     /// Makes room for one entry more.
     pub fn reserve(&mut self) -> Result<(), OutOfMemory>
-        ensures same { (self.new.full.items ≡ self.old.full.items) × (self.new.last.items ≡ self.old.last.items) × (self.new.unmarked.items ≡ self.old.unmarked.items) × (self.new.taken ≡ self.old.taken) × (self.new.durable ≡ self.old.durable) }
+        ensures same { (self.new.full.items ≡ self.old.full.items)
+            × (self.new.last.items ≡ self.old.last.items)
+            × (self.new.unmarked.items ≡ self.old.unmarked.items)
+            × (self.new.taken ≡ self.old.taken) × (self.new.durable ≡ self.old.durable) }
         ensures room { OnOk result (HasRoom self.new) }
     {
         self.last.reserve(1)?;
@@ -111,7 +114,8 @@ impl Queue {
     /// Moves the last list to the full ones once it is full.
     fn close_last(&mut self)
         requires { deque_len self.old.full < deque_capacity self.old.full }
-        ensures { (t d : ℕ) (es : List Entry) → length self.old.last.items ≤ 4096 → Lined self.old t d es → Queued self.new t d es }
+        ensures { (t d : ℕ) (es : List Entry) → length self.old.last.items ≤ 4096
+            → Lined self.old t d es → Queued self.new t d es }
     {
         if self.last.len() < BATCH {
             return;
@@ -128,7 +132,8 @@ impl Queue {
     pub fn push(&mut self, entry: Entry)
         requires room { HasRoom self.old }
         requires short { HasShortNumber entry }
-        ensures { (t d : ℕ) (es : List Entry) → Queued self.old t d es → Queued self.new t d (es ++ entry ∷ []) }
+        ensures { (t d : ℕ) (es : List Entry) → Queued self.old t d es
+            → Queued self.new t d (es ++ entry ∷ []) }
     {
         let passed = passed_by(&entry);
         match self.unmarked.push_back(passed) {
@@ -144,15 +149,18 @@ impl Queue {
 
     /// Whether `take` would hand out an entry.
     pub fn has_pending(&self) -> bool
-        ensures { (t d : ℕ) (es : List Entry) → Queued self.now t d es → result ≡ nat_lt t (length es) }
+        ensures { (t d : ℕ) (es : List Entry) → Queued self.now t d es
+            → result ≡ nat_lt t (length es) }
     {
         self.full.len() > 0 || self.last.len() > 0
     }
 
     // Takes the first list out.
     fn first(&mut self) -> List<Entry>
-        ensures first { (t d : ℕ) (es : List Entry) → Queued self.old t d es → FirstTaken self.old self.new result t es }
-        ensures same { (self.new.unmarked.items ≡ self.old.unmarked.items) × (self.new.taken ≡ self.old.taken) × (self.new.durable ≡ self.old.durable) }
+        ensures first { (t d : ℕ) (es : List Entry) → Queued self.old t d es
+            → FirstTaken self.old self.new result t es }
+        ensures same { (self.new.unmarked.items ≡ self.old.unmarked.items)
+            × (self.new.taken ≡ self.old.taken) × (self.new.durable ≡ self.old.durable) }
     {
         match self.full.pop_front() {
             Some(list) => list,
@@ -165,9 +173,12 @@ impl Queue {
 
     /// Hands out the first 4096 entries that were not handed out, or all where they are fewer.
     pub fn take(&mut self) -> Batch
-        ensures from { (t d : ℕ) (es : List Entry) → Queued self.old t d es → result.from ≡ t % 2 ^ 64 }
-        ensures entries { (t d : ℕ) (es : List Entry) → Queued self.old t d es → result.entries ≡ take 4096 (drop t es) }
-        ensures after { (t d : ℕ) (es : List Entry) → Queued self.old t d es → Queued self.new (t + length result.entries) d es }
+        ensures from { (t d : ℕ) (es : List Entry) → Queued self.old t d es
+            → result.from ≡ t % 2 ^ 64 }
+        ensures entries { (t d : ℕ) (es : List Entry) → Queued self.old t d es
+            → result.entries ≡ take 4096 (drop t es) }
+        ensures after { (t d : ℕ) (es : List Entry) → Queued self.old t d es
+            → Queued self.new (t + length result.entries) d es }
     {
         let from = self.taken;
         let entries = self.first();
@@ -190,7 +201,8 @@ impl Queue {
     // The lists without the entries that were not handed out.
     fn clear(&mut self)
         ensures pending { (self.new.full.items ≡ []) × (self.new.last.items ≡ []) }
-        ensures same { (self.new.unmarked.items ≡ self.old.unmarked.items) × (self.new.taken ≡ self.old.taken) × (self.new.durable ≡ self.old.durable) }
+        ensures same { (self.new.unmarked.items ≡ self.old.unmarked.items)
+            × (self.new.taken ≡ self.old.taken) × (self.new.durable ≡ self.old.durable) }
     {
         self.full.clear();
         self.last.clear();
@@ -213,7 +225,9 @@ impl Queue {
 
     /// Notes that one more entry is durable, and says what it makes so.
     pub fn pop(&mut self) -> Option<Passed>
-        ensures { (t d : ℕ) (es : List Entry) → Queued self.old t d es → d < t → (e : Entry) × IsAt es d e × (result ≡ Some (passed_by e)) × Queued self.new t (d + 1) es }
+        ensures { (t d : ℕ) (es : List Entry) → Queued self.old t d es → d < t
+            → (e : Entry) × IsAt es d e × (result ≡ Some (passed_by e))
+            × Queued self.new t (d + 1) es }
     {
         self.durable = self.durable.wrapping_add(1);
         self.unmarked.pop_front()

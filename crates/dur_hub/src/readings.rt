@@ -17,14 +17,16 @@ use std::alloc::Global;
 impl Hub {
     /// The last moment that was used, in ticks of 2^-32 s.
     pub fn last(&self) -> Ticks
-        ensures { (start : Run) (log : List Event) → Stands start log self.now → result ≡ last (run_after start log) }
+        ensures { (start : Run) (log : List Event) → Stands start log self.now
+            → result ≡ last (run_after start log) }
     {
         self.moment
     }
 
     /// What this run admitted, acknowledged, refused and replayed, modulo 2^64.
     pub fn counts(&self) -> Counts
-        ensures { (start : Run) (log : List Event) → Stands start log self.now → result ≡ counts (run_after start log) }
+        ensures { (start : Run) (log : List Event) → Stands start log self.now
+            → result ≡ counts (run_after start log) }
     {
         Counts {
             entries: self.ledger.entries,
@@ -59,14 +61,16 @@ impl Hub {
     /// counts as no replay.
     pub fn listing(&self, alloc: Global, topic: u32, moment: Ticks) -> Result<Snapshot, OutOfMemory>
         ensures { IfOk result (λ s. (start : Run) (log : List Event) → Stands start log self.now
-            → topic < length (run_after start log).plan.topics → s.changes ≡ listed (run_after start log) topic moment) }
+            → topic < length (run_after start log).plan.topics
+            → s.changes ≡ listed (run_after start log) topic moment) }
     {
         self.changes(alloc, topic, later(moment, self.moment))
     }
 
     /// Whether `take` would hand out an entry.
     pub fn has_pending(&self) -> bool
-        ensures { (start : Run) (log : List Event) → Stands start log self.now → result ≡ has_pending (run_after start log) }
+        ensures { (start : Run) (log : List Event) → Stands start log self.now
+            → result ≡ has_pending (run_after start log) }
     {
         self.ledger.queue.has_pending()
     }

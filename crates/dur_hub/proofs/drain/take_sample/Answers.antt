@@ -4,12 +4,17 @@ use Rattle.dur_hub.proofs.drain.take_sample.Goals as goal
 
 pub returns-in-Ok-admit-clause-turns : goal.returns-in-Ok-admit-clause-turns
 returns-in-Ok-admit-clause-turns c =
-    turn_took _ _ _ _ _ _ _ c.args.number c.sample.result.now c.in-Ok.sample c.requires.next c.requires.short c.sample.ensures.sample c.in-Ok.ensures c.in-Ok-admit.ensures.ok (λ s z fits is. (c.handled-sample.ensures.sample s z fits is).1)
+    turn_took _ _ _ _ _ _ _ c.args.number c.sample.result.now c.in-Ok.sample c.requires.next
+    c.requires.short c.sample.ensures.sample c.in-Ok.ensures c.in-Ok-admit.ensures.ok
+    (λ s z fits is. (c.handled-sample.ensures.sample s z fits is).1)
 
 pub returns-in-Err-OutOfMemory-clause-turns : goal.returns-in-Err-OutOfMemory-clause-turns
-returns-in-Err-OutOfMemory-clause-turns c = turn_stopped _ _ _ _ _ _ _ c.in-Err-OutOfMemory.ensures.err refl
+returns-in-Err-OutOfMemory-clause-turns c =
+    turn_stopped _ _ _ _ _ _ _ c.in-Err-OutOfMemory.ensures.err refl
 
 pub returns-in-Err-Limit-clause-turns : goal.returns-in-Err-Limit-clause-turns
 returns-in-Err-Limit-clause-turns c =
-    turn_refused _ _ _ _ _ _ _ c.args.number c.sample.result.now c.in-Ok.sample _ c.requires.next c.requires.short c.sample.ensures.sample c.in-Ok.ensures c.in-Err-Limit.ensures.err
-    (c.in-Err-Limit.ensures.limit c.in-Err-Limit.limit (ap Err c.in-Err-Limit.field-0-is)) c.refuse.ensures
+    turn_refused _ _ _ _ _ _ _ c.args.number c.sample.result.now c.in-Ok.sample _ c.requires.next
+    c.requires.short c.sample.ensures.sample c.in-Ok.ensures c.in-Err-Limit.ensures.err
+    (c.in-Err-Limit.ensures.limit c.in-Err-Limit.limit (ap Err c.in-Err-Limit.field-0-is))
+    c.refuse.ensures

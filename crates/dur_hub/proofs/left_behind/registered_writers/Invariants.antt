@@ -7,5 +7,6 @@ use Rattle.dur_hub.proofs.left_behind.registered_writers.Given as goal
 abbrev pub invariant-loop-instance : goal.invariant-loop-instance
 invariant-loop-instance l = record {
   long : length l.flags.items ≡ length l.view.writers;
-  noted : (i : ℕ) → i < length l.view.writers → get_or l.flags.items i false ≡ list_any (λ (line : Instance). list_any (λ r. r == i) line.registered) (take l.instance-index l.view.instances);
+  noted : (i : ℕ) → i < length l.view.writers
+      → get_or l.flags.items i false ≡ list_any (λ (line : Instance). list_any (λ r. r == i) line.registered) (take l.instance-index l.view.instances);
 }

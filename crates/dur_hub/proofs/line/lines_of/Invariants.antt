@@ -9,5 +9,6 @@ use Rattle.dur_hub.specs.Lines.{LinesFit}
 use Rattle.dur_hub.proofs.line.lines_of.Given as goal
 
 abbrev pub invariant-loop-writer : goal.invariant-loop-writer
-invariant-loop-writer l = (v : View) → Keeps l.store (Start v) → AllByRecursion (WriterStands l.plan v) l.plan.writers
+invariant-loop-writer l =
+    (v : View) → Keeps l.store (Start v) → AllByRecursion (WriterStands l.plan v) l.plan.writers
     → LinesFit l.plan (Start v) 0 l.lines.items (map (first_writer v) (take l.writer-index l.plan.writers))

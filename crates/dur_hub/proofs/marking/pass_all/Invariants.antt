@@ -8,4 +8,7 @@ use Rattle.dur_hub.specs.Queues.{Queued}
 use Rattle.dur_hub.proofs.marking.pass_all.Given as goal
 
 abbrev pub invariant-loop : goal.invariant-loop
-invariant-loop l = (plan : Plan) (h : History) (t d : ℕ) (ws : List Writer) → Queued l.fn.queue t d (stored h) → d + l.count ≤ t → LinesFit plan h d l.fn.lines ws → Queued l.queue t (d + l.counter) (stored h) × LinesFit plan h (d + l.counter) l.lines ws
+invariant-loop l =
+    (plan : Plan) (h : History) (t d : ℕ) (ws : List Writer) → Queued l.fn.queue t d (stored h)
+    → d + l.count ≤ t → LinesFit plan h d l.fn.lines ws
+    → Queued l.queue t (d + l.counter) (stored h) × LinesFit plan h (d + l.counter) l.lines ws

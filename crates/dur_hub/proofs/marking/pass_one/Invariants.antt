@@ -11,4 +11,7 @@ use Rattle.dur_hub.proofs.Passing.{Half}
 use Rattle.dur_hub.proofs.marking.pass_one.Given as goal
 
 abbrev pub invariant-loop-i : goal.invariant-loop-i
-invariant-loop-i l = (plan : Plan) (h : History) (d : ℕ) (e : Entry) (ws : List Writer) → IsAt (stored h) d e → l.passed ≡ passed_by e → LinesFit plan h d l.fn.lines ws → Half (LineFits plan h d) (LineFits plan h (d + 1)) l.i l.lines ws
+invariant-loop-i l =
+    (plan : Plan) (h : History) (d : ℕ) (e : Entry) (ws : List Writer) → IsAt (stored h) d e
+    → l.passed ≡ passed_by e → LinesFit plan h d l.fn.lines ws
+    → Half (LineFits plan h d) (LineFits plan h (d + 1)) l.i l.lines ws

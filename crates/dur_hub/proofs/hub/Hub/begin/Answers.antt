@@ -5,5 +5,7 @@ use Rattle.dur_hub.proofs.hub.Hub.begin.Goals as goal
 
 pub returns : goal.returns
 returns c =
-    begins c.args.self.now _ _ _ _ _ _ c.later-used.ensures c.deref_mut.ensures.value (with_items_is c.args.self.now.lines c.lease_step-whole.new.lines (omega arith)) c.lease_step-whole.ensures
+    begins c.args.self.now _ _ _ _ _ _ c.later-used.ensures c.deref_mut.ensures.value
+    (with_items_is c.args.self.now.lines c.lease_step-whole.new.lines (omega arith))
+    c.lease_step-whole.ensures
     record { plan = refl; places = refl; working = refl; stopped = refl } refl c.either-self.ensures refl refl refl

@@ -4,4 +4,5 @@ use Rattle.dur_hub.proofs.hub.Hub.changes.Goals as goal
 
 pub returns-in-None : goal.returns-in-None
 returns-in-None c = λ r here lt late.
-    absurd (omega (arith, c.in-None.ensures.lookup.3, lt, ap length c.as_slice.ensures, places_many _ _ _ here.places))
+    absurd
+    (omega (arith, c.in-None.ensures.lookup.3, lt, ap length c.as_slice.ensures, places_many _ _ _ here.places))

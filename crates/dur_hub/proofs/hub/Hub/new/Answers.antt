@@ -8,7 +8,10 @@ pub returns : goal.returns
 returns c =
     let v = full c.args.plan c.args.view in
     let keeps = c.in_ok-store.ensures in
-    stands_opened c.args.plan c.args.view c.args.working _ c.requires refl (c.new.ensures v keeps) (λ stand. c.in_ok-lines.ensures v keeps stand) (c.in_ok-places.ensures (Start v) keeps) c.in_ok-leaving.ensures refl refl c.new-2.ensures.items refl refl refl refl
+    stands_opened c.args.plan c.args.view c.args.working _ c.requires refl (c.new.ensures v keeps)
+    (λ stand. c.in_ok-lines.ensures v keeps stand) (c.in_ok-places.ensures (Start v) keeps)
+    c.in_ok-leaving.ensures refl refl c.new-2.ensures.items refl refl refl refl
 
 pub places-requires : goal.places-requires
-places-requires c = (Start (full c.args.plan c.args.view), c.in_ok-store.ensures, c.requires.whole.topics.count)
+places-requires c =
+    (Start (full c.args.plan c.args.view), c.in_ok-store.ensures, c.requires.whole.topics.count)

@@ -7,15 +7,18 @@ use Rattle.dur_hub.proofs.Ledgers.{admitted, other_admitted}
 use Rattle.dur_hub.proofs.ledger.Ledger.admit.Goals as goal
 
 pub returns-in-Err-clause-limit : goal.returns-in-Err-clause-limit
-returns-in-Err-clause-limit c = λ limit is h t d at follows. (let q : c.refused_for.result ≡ Limit limit = cc in let e : c.in-Err.refuse ≡ refusal_for limit = c.refused_for.ensures limit q in c.in-Err.ensures.limit limit c.in-Err._entry (cc) h at.keeps follows)
+returns-in-Err-clause-limit c =
+    λ limit is h t d at follows. (let q : c.refused_for.result ≡ Limit limit = cc in let e : c.in-Err.refuse ≡ refusal_for limit = c.refused_for.ensures limit q in c.in-Err.ensures.limit limit c.in-Err._entry (cc) h at.keeps follows)
 
 pub returns-in-Err-admit-clause-limit : goal.returns-in-Err-admit-clause-limit
-returns-in-Err-admit-clause-limit c = λ limit is h t d at follows. (let q : c.refused_for-in-Err-admit.result ≡ Limit limit = cc in let e : c.in-Err-admit.refuse ≡ refusal_for limit = c.refused_for-in-Err-admit.ensures limit q in c.in-Err-admit.ensures.limit limit c.in-Err-admit._entry (cc) h at.keeps follows)
+returns-in-Err-admit-clause-limit c =
+    λ limit is h t d at follows. (let q : c.refused_for-in-Err-admit.result ≡ Limit limit = cc in let e : c.in-Err-admit.refuse ≡ refusal_for limit = c.refused_for-in-Err-admit.ensures limit q in c.in-Err-admit.ensures.limit limit c.in-Err-admit._entry (cc) h at.keeps follows)
 
 pub returns-in-Ok-admit-clause-ok : goal.returns-in-Ok-admit-clause-ok
 returns-in-Ok-admit-clause-ok c = λ h t d at is follows.
     let both = c.in-Ok-admit.ensures.ok h at.keeps follows in
-    let push : (es : List Entry) → Queued c.reserve.new.self t d es → Queued c.push.new.self t d (es ++ c.args.entry ∷ []) =
+    let push : (es : List Entry) → Queued c.reserve.new.self t d es
+    → Queued c.push.new.self t d (es ++ c.args.entry ∷ []) =
     λ es so. subst (λ e. Queued c.push.new.self t d (es ++ e ∷ [])) c.in-Ok-copy.ensures (c.push.ensures t d es so) in
     (admitted c.args.self.now _ _ _ h t d _ _ (omega arith) at.entries both.0 (let q : c.args.stored ≡ true = c.if-not-stored.false in sym q ∙ is) c.reserve.ensures.same at.queued push, both.1)
 
