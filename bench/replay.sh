@@ -43,6 +43,8 @@ use std::time::{Clock, Instant};
 
 const CHANGES: u64 = $changes;
 
+const OCTETS: usize = $((changes * 256));
+
 const OWN: Prefix = Prefix([1, 2, 3, 4, 5, 6, 7, 8, 0, 0, 0, 1]);
 
 const REPLAY: EntityId = EntityId([1, 0, 1, 2]);
@@ -59,7 +61,7 @@ fn number(value: u64) -> Number {
 }
 
 fn change(alloc: Global, value: u64) -> Result<Change, OutOfMemory> {
-    let octets = [value as u8; 256];
+    let octets = [(value % 251) as u8; 256];
     let payload = match Bytes::copy_from_slice(alloc, &octets) {
         Ok(payload) => payload,
         Err(_) => return Err(OutOfMemory),
@@ -160,8 +162,8 @@ fn replay(alloc: Global, changes: List<Change>, out: &mut [u8]) -> Result<usize,
 
 fn run(rt: &HostRuntime) -> io::Result<()> {
     let mut out = [0; 65507];
-    let from = vec![in rt.alloc(); 7u8; 256 * CHANGES as usize]?;
-    let mut to = vec![in rt.alloc(); 0u8; 256 * CHANGES as usize]?;
+    let from = vec![in rt.alloc(); 7u8; OCTETS]?;
+    let mut to = vec![in rt.alloc(); 0u8; OCTETS]?;
     let Ok(changes) = changes(rt.alloc()) else {
         return Ok(());
     };
