@@ -1,6 +1,7 @@
 -- A hub may be opened over the blank view of a good plan.
 use Rattle.std.proofs.Common.{◌≡◌, ◌⊎◌, inl, inr, ℕ, zero, suc, ◌<◌, List, [], ◌∷◌, ◌++◌, length, get_or, map, refl, ap, subst, ◌∙◌, sym, Bool, true, false, cond, not, Some, None, arith, append-nil}
 use Rattle.std.specs.Prelude.{filter, is_some, slice_get, All, Contains}
+use Rattle.std.proofs.lemmas.List.{length-map}
 use Rattle.std.proofs.lemmas.List.Elements.{All-contains_itself}
 use Rattle.std.specs.Str.{bytes_eq}
 use Rattle.dur_qos.specs.declared.plan.Plan.{Plan}
@@ -110,7 +111,7 @@ first_opens plan good sound = record {
       (one_at plan.writers k d lt) in
       let same : first_line (get_or plan.writers k d) ≡ line = (let e = sym own ∙ is in cc) in
       ap (λ (l : KeptWriter). slice_get plan.topics l.topic) (sym same);
-  whole = subst IsSound (sym (full_first plan good)) sound;
+  count = omega (arith, ap (λ (v : View). length v.writers) (full_first plan good), length-map plan.writers first_line, good.writer_count);
 }
 
 pub blank_opens : (plan : Plan) → GoodPlan plan → MayOpen plan (blank plan)

@@ -15,7 +15,10 @@ use Rattle.dur_view.specs.Words.{is_same, writer_line, stands, topic_of}
 use Rattle.dur_view.specs.Past.{no_topic}
 use Rattle.dur_view.specs.Full.{topic_place, new_writer, more_topics, more_writers, places_of, full}
 use Rattle.dur_view.specs.History.{History, Start, start, next}
+use Rattle.dur_view.specs.IsSound.{IsSound}
 use Rattle.dur_view.proofs.SoundTests.{TopicsPass}
+use Rattle.dur_view.proofs.CountedTopics.{few-topics}
+use Rattle.dur_view.proofs.FullSound.{full-sound}
 use Rattle.dur_view.proofs.GoodTopics.{topics-pass}
 use Rattle.dur_hub.specs.Telling.{topic_in}
 use Rattle.dur_hub.specs.Runs.{Writer, Run, first_writer, opening}
@@ -191,6 +194,10 @@ module _ (plan : Plan) (v : View) (may : MayOpen plan v) where
   pub writers_stand : AllByRecursion (WriterStands plan (full plan v)) plan.writers
   writers_stand = stand_in plan.writers may.plan.writers may.writers (λ w one. one)
 
+-- the full view is sound
+pub full_opens : (plan : Plan) (v : View) → MayOpen plan v → IsSound (full plan v)
+full_opens plan v may = full-sound plan v may.plan may.view (few-topics plan v may.plan may.view may.topics) may.count
+
 -- ---- the run that has no call yet
 
 good_first : (plan : Plan) (v : View) (ws : List WriterLine)
@@ -219,7 +226,7 @@ apart_first v (w ∷ ws) apart = (out_first v w.guid ws apart.0, apart_first v w
 pub good_opening : (plan : Plan) (v : View) (working : ℕ) → MayOpen plan v
     → IsGoodRun (opening plan v working)
 good_opening plan v working may = record {
-  history = may.whole;
+  history = full_opens plan v may;
   early = omega arith;
   writers = good_first plan (full plan v) plan.writers (writers_stand plan v may);
   apart = apart_first (full plan v) plan.writers (differ_plan plan may.plan);

@@ -32,7 +32,7 @@ use Rattle.dur_hub.specs.Lines.{LineFits, Pairs, LinesFit}
 use Rattle.dur_hub.specs.Queues.{LedgerAt}
 use Rattle.dur_hub.specs.Hubs.{HubAt, Stands}
 use Rattle.dur_hub.proofs.Stored.{next_stored}
-use Rattle.dur_hub.proofs.Declared.{places_fit, writers_stand, good_opening}
+use Rattle.dur_hub.proofs.Declared.{full_opens, places_fit, writers_stand, good_opening}
 use Rattle.dur_hub.proofs.LeftOver.{left_opening}
 
 -- a place has what a test of its topic says
@@ -126,7 +126,7 @@ stands_opened plan v working hub may plan_is ledger lines places leaving moment 
     given = given;
     leaving =
         λ no1. leaving
-        ∙ left_opening plan v working (sound-passes (full plan v) may.whole) (sound-passes v may.view);
+        ∙ left_opening plan v working (sound-passes (full plan v) (full_opens plan v may)) (sound-passes v may.view);
     acks = acks;
     refused = refused;
     working = working_is;

@@ -19,13 +19,13 @@ HasOneTopic plan v w =
     → slice_get v.topics line.topic ≡ slice_get plan.topics w.topic
 
 -- The plan is good and the view sound; each topic of the view stands in the plan with the same settings, and the plan declares
--- none of its writers under another topic.
+-- none of its writers under another topic. With the plan's writers it has no more than a view may have.
 pub record MayOpen (p : Plan) (v : View) : Type 0 where
   pub plan : GoodPlan p
   pub view : IsSound v
   pub topics : All (Contains p.topics) v.topics
   pub writers : All (HasOneTopic p v) p.writers
-  pub whole : IsSound (full p v)
+  pub count : length (full p v).writers ≤ 67108864
 
 -- a writer of the plan stands in the view, in the topic that the plan says
 pub record WriterStands (plan : Plan) (v : View) (w : WriterLine) : Type 0 where

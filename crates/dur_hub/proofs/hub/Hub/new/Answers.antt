@@ -1,6 +1,7 @@
 use Rattle.std.proofs.Common.{◌∙◌, refl, ap}
 use Rattle.dur_view.specs.Full.{full}
 use Rattle.dur_view.specs.History.{Start}
+use Rattle.dur_hub.proofs.Declared.{full_opens}
 use Rattle.dur_hub.proofs.Opens.{stands_opened}
 use Rattle.dur_hub.proofs.hub.Hub.new.Goals as goal
 
@@ -14,4 +15,4 @@ returns c =
 
 pub places-requires : goal.places-requires
 places-requires c =
-    (Start (full c.args.plan c.args.view), c.in_ok-store.ensures, c.requires.whole.topics.count)
+    (Start (full c.args.plan c.args.view), c.in_ok-store.ensures, (full_opens c.args.plan c.args.view c.requires).topics.count)
