@@ -43,8 +43,6 @@ use std::time::{Clock, Instant};
 
 const CHANGES: u64 = $changes;
 
-const OCTETS: usize = $((changes * 256));
-
 const OWN: Prefix = Prefix([1, 2, 3, 4, 5, 6, 7, 8, 0, 0, 0, 1]);
 
 const REPLAY: EntityId = EntityId([1, 0, 1, 2]);
@@ -160,20 +158,38 @@ fn replay(alloc: Global, changes: List<Change>, out: &mut [u8]) -> Result<usize,
     Ok(late.taken().len())
 }
 
+// As many octets as all payloads have.
+fn octets(alloc: Global, value: u8) -> Result<Vec<u8>, OutOfMemory> {
+    let chunk = [value; 256];
+    let mut octets = Vec::new(alloc);
+    for _ in 0..CHANGES {
+        octets.extend_from_slice(&chunk)?;
+    }
+    Ok(octets)
+}
+
+fn copy(from: &[u8], to: &mut [u8]) {
+    if from.len() == to.len() {
+        to.copy_from_slice(from);
+    }
+}
+
 fn run(rt: &HostRuntime) -> io::Result<()> {
-    let mut out = [0; 65507];
-    let from = vec![in rt.alloc(); 7u8; OCTETS]?;
-    let mut to = vec![in rt.alloc(); 0u8; OCTETS]?;
     let Ok(changes) = changes(rt.alloc()) else {
         return Ok(());
     };
+    let Ok(from) = octets(rt.alloc(), 7) else {
+        return Ok(());
+    };
+    let Ok(mut to) = octets(rt.alloc(), 0) else {
+        return Ok(());
+    };
+    let mut out = [0; 65507];
     let start = Instant::now(rt)?;
     let taken = replay(rt.alloc(), changes, &mut out).unwrap_or(0);
     let replayed = start.elapsed(rt)?.as_nanos().max(1);
     let start = Instant::now(rt)?;
-    if from.len() == to.len() {
-        to.as_mut_slice().copy_from_slice(from.as_slice());
-    }
+    copy(from.as_slice(), to.as_mut_slice());
     let copied = start.elapsed(rt)?.as_nanos().max(1);
     println!(rt; "replay {taken} {replayed} {copied}")
 }
