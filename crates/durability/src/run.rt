@@ -1,6 +1,6 @@
 //! The top call: what the words ask for, over a source, a rig and a sink for the line of a fault.
 
-ghost use Rattle.std.specs.Prelude.{◌≡◌, ◌↔◌, map, string_bytes, IfSome};
+ghost use Rattle.std.specs.Prelude.{◌≡◌, ◌⊎◌, map, string_bytes, IfSome};
 ghost use Rattle.dur_outside.specs.Causes.{Rose};
 ghost use Rattle.dur_rerun.specs.Command.{HasReason, Arrives, GoesOut, Keeps};
 ghost use Rattle.dur_rerun.specs.Saying.{IsSaid, wrote};
@@ -9,7 +9,7 @@ ghost use Rattle.durability.specs.Status.{fault_line};
 ghost use Rattle.durability.specs.declared.words.Line.{Line};
 
 use crate::status::say_fault;
-use crate::words::{Line, read_words};
+use crate::words::{Line, WordsFault, read_words};
 use dur_outside::{Rig, Sink, Source};
 use dur_rerun::list::list;
 use dur_rerun::show::show;
@@ -57,7 +57,8 @@ pub fn durability<S: Source, R: Rig, E: Sink>(
     err: &mut E,
 ) -> Ran<R>
     // The words are no command line.
-    ensures usage { (result.status ≡ Status.Usage) ↔ ((line : Line) → IsLine (map string_bytes words.now) line → ⊥) }
+    ensures usage { result.status ≡ Status.Usage → (line : Line) → IsLine (map string_bytes words.now) line → ⊥ }
+    ensures none { ((line : Line) → IsLine (map string_bytes words.now) line → ⊥) → (result.status ≡ Status.Usage) ⊎ (result.status ≡ Status.OutOfMemory) }
     ensures untouched { result.status ≡ Status.Usage → (input.new ≡ input.old) × (result.rig ≡ rig) }
     // They are one.
     ensures reason { (line : Line) → IsLine (map string_bytes words.now) line → HasReason (ends_of line) result.status (S.left input.new)
@@ -72,11 +73,18 @@ pub fn durability<S: Source, R: Rig, E: Sink>(
     ensures told { E.tells → (Rose (E.sink_faults err.old) (E.sink_faults err.new) → ⊥)
         → (E.world err.new).now ≡ wrote (fault_line result.status) (E.world err.old).now }
 {
-    match read_words(words) {
-        Some(line) => told(run(alloc, line, input, rig), err),
-        None => told(
+    match read_words(alloc, words) {
+        Ok(line) => told(run(alloc, line, input, rig), err),
+        Err(WordsFault::Usage) => told(
             Ran {
                 status: Status::Usage,
+                rig,
+            },
+            err,
+        ),
+        Err(WordsFault::OutOfMemory) => told(
+            Ran {
+                status: Status::OutOfMemory,
                 rig,
             },
             err,

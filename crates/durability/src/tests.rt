@@ -2,7 +2,8 @@
 
 use crate::run::durability;
 use crate::status::number;
-use dur_base::{List, Octets};
+use crate::words::{Line, WordsFault, read_words};
+use dur_base::{List, Octets, Ticks};
 use dur_capture::CapFault;
 use dur_outside::{MemDisk, MemRig, MemSink, MemSource};
 use dur_qos::PlanKind;
@@ -130,6 +131,35 @@ fn other_forms_and_words_are_named(rt: HostRuntime) {
     show::one_answer();
     let done = run(alloc, "lists", FIRST, b"", none(alloc));
     assert!(rt; gives(&done, Status::Usage, b"", b"durability: usage\n"));
+}
+
+/// The command line that these words are.
+fn line_of(alloc: Global, texts: &[&str]) -> Result<Line, WordsFault> {
+    let mut words = Vec::new(alloc);
+    for text in texts {
+        words.push(String::from_str(alloc, text)?)?;
+    }
+    read_words(alloc, &words)
+}
+
+#[test]
+fn options_are_read_in_both_spellings(rt: HostRuntime) {
+    let alloc = rt.alloc();
+    let line = line_of(alloc, ["list", "--at", "7", "--epoch=3"].as_slice());
+    assert!(rt;
+        line == Ok(Line::List {
+            at: Ticks(7),
+            epoch: 3
+        })
+    );
+    let line = line_of(alloc, ["show", "--epoch=4294967295"].as_slice());
+    assert!(rt; line == Ok(Line::Show { epoch: 0xffff_ffff }));
+    let twice = line_of(alloc, ["list", "--epoch=1", "--epoch", "1"].as_slice());
+    assert!(rt; twice == Err(WordsFault::Usage));
+    let zero = line_of(alloc, ["list", "--at", "07"].as_slice());
+    assert!(rt; zero == Err(WordsFault::Usage));
+    let ended = line_of(alloc, ["list", "--"].as_slice());
+    assert!(rt; ended == Err(WordsFault::Usage));
 }
 
 /// A heartbeat at moment 5: its record has 66 octets.

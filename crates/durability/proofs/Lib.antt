@@ -1,0 +1,6 @@
+pub mod Lines
+pub mod Parses
+pub mod Rules
+pub mod Spelling
+pub mod TopCall
+pub mod Walks
