@@ -3,7 +3,7 @@
 use crate::run::durability;
 use crate::status::number;
 use crate::words::{Line, WordsFault, read_words};
-use dur_base::{List, Octets, Ticks};
+use dur_base::{List, Octets, OutOfMemory, Ticks};
 use dur_capture::CapFault;
 use dur_outside::{MemDisk, MemRig, MemSink, MemSource};
 use dur_qos::PlanKind;
@@ -133,13 +133,21 @@ fn other_forms_and_words_are_named(rt: HostRuntime) {
     assert!(rt; gives(&done, Status::Usage, b"", b"durability: usage\n"));
 }
 
-/// The command line that these words are.
-fn line_of(alloc: Global, texts: &[&str]) -> Result<Line, WordsFault> {
+/// The words after the program's name.
+fn words_of(alloc: Global, texts: &[&str]) -> Result<Vec<String>, OutOfMemory> {
     let mut words = Vec::new(alloc);
     for text in texts {
         words.push(String::from_str(alloc, text)?)?;
     }
-    read_words(alloc, &words)
+    Ok(words)
+}
+
+/// The command line that these words are.
+fn line_of(alloc: Global, texts: &[&str]) -> Result<Line, WordsFault> {
+    match words_of(alloc, texts) {
+        Ok(words) => read_words(alloc, &words),
+        Err(_) => Err(WordsFault::OutOfMemory),
+    }
 }
 
 #[test]
