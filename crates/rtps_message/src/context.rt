@@ -51,14 +51,14 @@ fn is_same(a: &[u8; 12], b: &[u8; 12]) -> bool
 
 impl Context {
     /// Whether they are for everybody or for this participant.
-    fn is_for(&self, own: Prefix) -> bool
+    pub fn is_for(&self, own: Prefix) -> bool
         ensures { result ≡ is_for own self.now }
     {
         is_same(&self.destination.0, &[0; 12]) || is_same(&self.destination.0, &own.0)
     }
 
     /// What a DATA tells whose payload ends at that place of the datagram.
-    fn data_fact(
+    pub fn data_fact(
         &self,
         sub: &DataSub<'_>,
         datagram: &Payload,

@@ -10,6 +10,7 @@ mod laws;
 mod sample;
 mod writing;
 
+pub use context::{Context, begin};
 pub use heard::{End, Heard};
 pub use hearing::{facts, facts_of};
 pub use laws::{changes_read_again, markers_read_again, one_hearing};
