@@ -49,13 +49,6 @@ impl Model for Proxy {
     ghost invariant = { λ p. IsWindow (record { next = p.next; floor = p.floor; top = p.top; refused = p.refused; places = p.places.items }) };
 }
 
-/// Whether the next number still counts as refused: it does until something is told of it.
-fn still_refused(refused: bool, other: bool) -> bool
-    ensures { result ≡ (refused && other) }
-{
-    refused && other
-}
-
 /// Puts the number `base + i` into a set, above all others, if it is missing.
 fn push_if(set: &mut Bits, i: u32, missing: bool)
     requires above { set.old.count ≤ i }
@@ -170,7 +163,7 @@ impl Proxy {
         requires { first < 2 ^ 63 }
         ensures { self.new ≡ with_floor self.old first }
     {
-        self.refused = still_refused(self.refused, first <= self.next);
+        self.refused &= first <= self.next;
         self.floor = self.floor.max(first);
     }
 
@@ -190,7 +183,7 @@ impl Proxy {
         ensures after { self.new ≡ with_known self.old number known }
         ensures size { length self.old.places ≡ 256 }
     {
-        self.refused = still_refused(self.refused, number != self.next);
+        self.refused &= number != self.next;
         self.top = self.top.max(number + 1);
         let _before = ring::put(self.places.as_mut_slice(), number, known);
     }
