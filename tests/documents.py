@@ -1,0 +1,62 @@
+#!/usr/bin/env python3
+"""Holds the documents to the source: each clause of a standard that a comment names stands in docs/CLAUSES.md, and each
+name that docs/CLAUSES.md and docs/GLOSSARY.md give stands in the source. Prints what does not, and ends with 1 then."""
+import pathlib
+import re
+import sys
+
+TOP = pathlib.Path(sys.argv[1] if len(sys.argv) > 1 else __file__).resolve()
+TOP = TOP if TOP.is_dir() else TOP.parent.parent
+CLAUSE = re.compile(r"(?<![\d.])(?:2\.2\.\d+(?:\.\d+)*|[89]\.\d+(?:\.\d+)*)(?![\d.]*\d)")
+NAME = re.compile(r"`([a-z_]+(?:::[A-Za-z_0-9]+)+)`")
+
+
+def comments(path):
+    """The comments of a source file, each with its line."""
+    for count, line in enumerate(path.read_text(encoding="utf-8").splitlines(), 1):
+        found = re.search(r"//.*|(?<!\S)--.*", line)
+        if found:
+            yield count, found.group()
+
+
+def named_clauses():
+    """Each clause that a comment names, with the first place that names it. A standard is named before its clauses."""
+    found = {}
+    for path in sorted(TOP.glob("crates/*/specs/**/*.antt")) + sorted(TOP.glob("crates/*/src/**/*.rt")):
+        if "out" in path.relative_to(TOP).parts:
+            continue
+        for count, comment in comments(path):
+            if "DDS" in comment or "RTPS" in comment or re.match(r"(//[/!]?|--) ?[^()]*\d\.\d[\d.]*\)", comment):
+                for clause in CLAUSE.findall(comment):
+                    found.setdefault(clause, f"{path.relative_to(TOP)}:{count}")
+    return found
+
+
+def stands(name):
+    """Whether a name is a definition of a crate's specs, or a public item of its source."""
+    crate, *rest = name.split("::")
+    folder = TOP / "crates" / crate
+    if rest[0] == "specs":
+        path = folder.joinpath("specs", *rest[1:-1]).with_suffix(".antt")
+        words = rf"^(?:(?:abbrev|record|data|pub|unfoldable|opaque) )*{re.escape(rest[-1])}\b"
+        return path.is_file() and re.search(words, path.read_text(encoding="utf-8"), re.M) is not None
+    item = re.compile(rf"\b(?:pub (?:const )?(?:fn|struct|enum|trait|const|type)|fn) {re.escape(rest[-1])}\b")
+    return any(item.search(path.read_text(encoding="utf-8")) for path in (folder / "src").glob("**/*.rt"))
+
+
+def main():
+    index = (TOP / "docs/CLAUSES.md").read_text(encoding="utf-8")
+    faults = []
+    listed = {clause for line in index.splitlines() if line.startswith("| ") for clause in CLAUSE.findall(line.split("|")[1])}
+    for clause, place in named_clauses().items():
+        if clause not in listed:
+            faults.append(f"{place} names {clause}, which docs/CLAUSES.md lacks")
+    for page in ("docs/CLAUSES.md", "docs/GLOSSARY.md"):
+        for name in sorted(set(NAME.findall((TOP / page).read_text(encoding="utf-8")))):
+            if not stands(name):
+                faults.append(f"{page} names {name}, which does not stand in the source")
+    print("\n".join(faults) if faults else f"documents: {len(listed)} clauses, each name stands")
+    return 1 if faults else 0
+
+
+sys.exit(main())
