@@ -1,6 +1,6 @@
 #!/usr/bin/env bash
 # Runs the hub's test of wanting memory with each allocation of its process refused in turn, by a `malloc` that stands
-# before the C library's: those of the opening of a hub, of a first datagram, of one of two samples and a HEARTBEAT that
+# before the C library's: those of the opening of a hub, of a first datagram, of one of a sample and a HEARTBEAT that
 # is told again until there is memory for it, of a batch and of a snapshot. It fails where one of these runs does not
 # end well. Outside the gate, since it proves the hub's tests where they were not; skipped where cc or rt is missing.
 set -euo pipefail

@@ -1,7 +1,8 @@
 //! What the tests' hubs are told, and what they answer.
 
-ghost use Rattle.std.specs.Prelude.{◌≡◌, [], IfOk, IfSome};
+ghost use Rattle.std.specs.Prelude.{◌≡◌, ◌≤◌, [], IfOk, IfSome};
 ghost use Rattle.dur_base.specs.Goodness.{IsGoodRaw};
+ghost use Rattle.dur_base.specs.declared.sample.Form.TheVariants.{Data};
 ghost use Rattle.dur_qos.specs.Good.{GoodPlan};
 ghost use Rattle.rtps_message.specs.Facts.{IsGoodFact};
 ghost use Rattle.dur_hub.specs.Hubs.{StandsForSome};
@@ -70,6 +71,7 @@ pub(crate) fn number(value: u64) -> Number {
 
 pub(crate) fn raw(key: Key) -> Raw
     ensures good { IsGoodRaw result }
+    ensures form { result.form ≡ Data }
     ensures payload { result.payload ≡ [] }
 {
     Raw {
@@ -134,12 +136,13 @@ pub(crate) fn short_lived(value: u64) -> Fact
     told(value, EVERYBODY, raw)
 }
 
-// The writer disposes of the instance, and unregisters from it or not.
-pub(crate) fn end_of(value: u64, unregisters: bool) -> Fact
+// A change of the instance's state: 1 disposes of it, 3 unregisters from it too.
+pub(crate) fn end_of(value: u64, status: u8) -> Fact
+    requires { status ≤ 3 }
     ensures { IsGoodFact result }
 {
     let mut raw = raw(AA);
-    raw.status = if unregisters { 3 } else { 1 };
+    raw.status = status;
     raw.form = Form::Nothing;
     told(value, EVERYBODY, raw)
 }

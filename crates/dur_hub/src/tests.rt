@@ -88,7 +88,7 @@ fn a_silent_writer_is_lost_after_its_lease(rt: HostRuntime) {
         b"prefix 0102030405060708\ntopic T transient hash 1 - 1 - - 0\nwriter a1a1a1a1a1a1a1a1a1a1a1a100000102 T 2\nend\n";
     let mut hub = opened(alloc, text).expect(&rt, "memory");
     let _reply = hears(&mut hub, alloc, 0, data(1, AA)).expect(&rt, "memory");
-    let _reply = hears(&mut hub, alloc, 1, end_of(2, false)).expect(&rt, "memory");
+    let _reply = hears(&mut hub, alloc, 1, end_of(2, 1)).expect(&rt, "memory");
     let _reply = hears(&mut hub, alloc, 8_589_934_593, beat(3, 2)).expect(&rt, "memory");
     assert!(rt; hub.counts().entries == 2);
     let late = 17_179_869_186;
@@ -159,7 +159,7 @@ fn an_instance_that_is_there_counts(rt: HostRuntime) {
         b"prefix 0102030405060708\ntopic T transient hash 1 - 1 - - 0\nwriter a1a1a1a1a1a1a1a1a1a1a1a100000102 T -\nend\n";
     let mut hub = opened(alloc, text).expect(&rt, "memory");
     let _reply = hears(&mut hub, alloc, 5, data(1, AA)).expect(&rt, "memory");
-    let _reply = hears(&mut hub, alloc, 5, end_of(2, true)).expect(&rt, "memory");
+    let _reply = hears(&mut hub, alloc, 5, end_of(2, 3)).expect(&rt, "memory");
     assert!(rt; is_refused(hears(&mut hub, alloc, 5, data(3, BB)), 3, Limit::Instances));
     let reply = hears(&mut hub, alloc, 6, data(3, BB)).expect(&rt, "memory");
     assert!(rt; reply.refused.len() == 0 && hub.counts().entries == 3);
