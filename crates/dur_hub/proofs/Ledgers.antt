@@ -8,21 +8,20 @@ use Rattle.dur_store.specs.Keeps.{Keeps}
 use Rattle.dur_hub.specs.declared.queue.Queue.{Queue}
 use Rattle.dur_hub.specs.declared.ledger.Ledger.{Ledger}
 use Rattle.dur_view.specs.Stored.{stored, is_stored}
-use Rattle.dur_hub.specs.Queues.{AllFull, Queued, LedgerAt}
+use Rattle.dur_hub.specs.Queues.{AllFull, Queued, SameMarks, LedgerAt}
 use Rattle.dur_hub.proofs.Stored.{stored_one}
 
 -- the same lists and counts are queued alike
 pub same_queue : (q p : Queue) (t d : ℕ) (es : List Entry)
-    → (p.full.items ≡ q.full.items) × (p.last.items ≡ q.last.items)
-    × (p.unmarked.items ≡ q.unmarked.items) × (p.taken ≡ q.taken) × (p.durable ≡ q.durable)
+    → (p.full.items ≡ q.full.items) × (p.last.items ≡ q.last.items) × SameMarks q p
     → Queued q t d es → Queued p t d es
 same_queue q p t d es same so = record {
   lined = record {
     pending = cc;
     full = subst (AllFull) (sym same.0) so.lined.full;
-    unmarked = same.2 ∙ so.lined.unmarked;
-    taken = same.3 ∙ so.lined.taken;
-    durable = same.4 ∙ so.lined.durable;
+    unmarked = same.2.0 ∙ so.lined.unmarked;
+    taken = same.2.1 ∙ so.lined.taken;
+    durable = same.2.2 ∙ so.lined.durable;
     marked = so.lined.marked;
     handed = so.lined.handed;
   };
@@ -38,8 +37,7 @@ pub admitted : (old : Ledger) (s : Store) (q r : Queue) (h : History) (t d n : �
     → n ≡ (old.entries + 1) % 2 ^ 64 → old.entries ≡ length (entries_of h) % 2 ^ 64
     → Keeps s (h ▸ e) → true ≡ is_stored (start h) (writer_of e)
     → (q.full.items ≡ old.queue.full.items) × (q.last.items ≡ old.queue.last.items)
-    × (q.unmarked.items ≡ old.queue.unmarked.items) × (q.taken ≡ old.queue.taken)
-    × (q.durable ≡ old.queue.durable)
+    × SameMarks old.queue q
     → Queued old.queue t d (stored h)
     → ((es : List Entry) → Queued q t d es → Queued r t d (es ++ e ∷ []))
     → LedgerAt (record { store = s; queue = r; entries = n }) (h ▸ e) t d

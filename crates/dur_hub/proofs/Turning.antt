@@ -40,8 +40,11 @@ module _ (l l' : Ledger) (p p' : Window) (w : Guid) (stored : Bool) (m : ℕ) wh
       → ((s : Story) → Fits p s → known s (next s) ≡ With x) → y ≡ x
       → ((h : History) (t d : ℕ) → LedgerAt l h t d → stored ≡ is_stored (start h) w → Follows h (Took m w n y) → LedgerAt l' (h ▸ Took m w n y) t d × (refused h (Took m w n y) ≡ None))
       → ((s : Story) (z : Sample) → Fits p s → known s (next s) ≡ With z → Fits p' (stories.◌▸◌ s (stories.Handled (next s + 1))))
+      → (p.next < p'.next) × (p'.next < 2 ^ 63)
       → Turns l p w stored m More l' p'
-  turn_took n x y is short sample copied admit handled = (
+  turn_took n x y is short sample copied admit handled grows = (
+    grows.0,
+    grows.1,
     Took m w n y,
     λ h t d s at fits may.
         let num : n ≡ next s = is ∙ fits.next in
@@ -70,8 +73,11 @@ module _ (l l' : Ledger) (p p' : Window) (w : Guid) (stored : Bool) (m : ℕ) wh
       → ((s : Story) → Fits p s → (from ≡ next s) × IsSkip s (to + 1))
       → ((h : History) (t d : ℕ) → LedgerAt l h t d → stored ≡ is_stored (start h) w → Follows h (Skip m w from to) → LedgerAt l' (h ▸ Skip m w from to) t d × (refused h (Skip m w from to) ≡ None))
       → ((s : Story) → Fits p s → known s (next s) ≡ Irrelevant → (k : ℕ) × (IsSkip s k × Fits p' (stories.◌▸◌ s (stories.Handled k))))
+      → (p.next < p'.next) × (p'.next < 2 ^ 63)
       → Turns l p w stored m More l' p'
-  turn_skip from to short skips admit handled = (
+  turn_skip from to short skips admit handled grows = (
+    grows.0,
+    grows.1,
     Skip m w from to,
     λ h t d s at fits may.
         let ready = skips s fits in
@@ -138,12 +144,12 @@ pub sofar_more : (l : Ledger) (p : Window) (w : Guid) (stored : Bool) (m : ℕ) 
     (p1 : Window) (l2 : Ledger) (p2 : Window)
     → Sofar l p w stored m l1 p1 → Turns l1 p1 w stored m More l2 p2 → Sofar l p w stored m l2 p2
 sofar_more l p w stored m l1 p1 l2 p2 so more =
-    let e = more.0 in
+    let e = more.2 in
     record {
       entries = so.entries ++ e ∷ [];
       holds = λ h t d s at fits may.
           let a = so.holds h t d s at fits may in
-          let b = more.1 (h +> so.entries) t d (with_entries s so.entries) a.1 a.2 a.3 in
+          let b = more.3 (h +> so.entries) t d (with_entries s so.entries) a.1 a.2 a.3 in
           let is : h +> (so.entries ++ e ∷ []) ≡ (h +> so.entries) ▸ e =
           extend-push h so.entries e in
           let also = entries_snoc s so.entries e in (

@@ -27,21 +27,17 @@ pub record MayAdd (h : History) (s : Story) (w : Guid) (stored : Bool) (m : ℕ)
   pub next : next s ≡ next_in h w
   pub samples : Tells (MayTake (start h) w) s
 
--- What one number does: its entry is admitted, or the numbers end here.
+-- What one number does: its entry is admitted, and the next number grows and stays one; or the numbers end here.
 abbrev pub Turns : Ledger → Window → Guid → Bool → ℕ → Turned → Ledger → Window → Type 0
 Turns l p w stored m More l' p' =
-    (e : Entry)
+    (p.next < p'.next) × (p'.next < 2 ^ 63)
+    × (e : Entry)
     × ((h : History) (t d : ℕ) (s : Story) → LedgerAt l h t d → Fits p s → MayAdd h s w stored m →
     IsNext s w m e × HasShortNumber e × (refused h e ≡ None) × LedgerAt l' (h ▸ e) t d
     × Fits p' (with_entry s e))
 Turns l p w stored m (Done end) l' p' =
     (h : History) (t d : ℕ) (s : Story) → LedgerAt l h t d → Fits p s → MayAdd h s w stored m →
     Ends s h w m end × LedgerAt l' h t d × Fits p' (after_end s end)
-
--- the next number grows, and stays one
-abbrev pub Grows : Turned → ℕ → ℕ → Type 0
-Grows More n n' = (n < n') × (n' < 2 ^ 63)
-Grows (Done end) n n' = Unit {0}
 
 -- What the numbers of a writer do: these entries are admitted.
 pub record Drains (l : Ledger) (p : Window) (w : Guid) (stored : Bool) (m : ℕ) (end : End) (l' : Ledger) (p' : Window) : Type 0 where

@@ -44,6 +44,12 @@ pub record Queued (q : Queue) (t d : ℕ) (es : List Entry) : Type 0 where
   pub lined : Lined q t d es
   pub last : length q.last.items < 4096
 
+-- what is left to be marked, and how many were handed out and are durable, are the same
+abbrev pub SameMarks : Queue → Queue → Type 0
+SameMarks old new =
+    (new.unmarked.items ≡ old.unmarked.items) × (new.taken ≡ old.taken)
+    × (new.durable ≡ old.durable)
+
 -- the queue without its first list, which holds the entries that are next, at most 4096 of them
 pub record FirstTaken (old new : Queue) (list : List Entry) (t : ℕ) (es : List Entry) : Type 0 where
   pub first : list ≡ take 4096 (drop t es)

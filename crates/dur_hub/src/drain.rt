@@ -2,7 +2,7 @@
 
 ghost use Rattle.std.specs.Prelude.{◌≡◌, ℕ, ◌<◌, ◌-◌, ◌^◌};
 ghost use Rattle.rel_reader.specs.Windows.{HasSample};
-ghost use Rattle.dur_hub.specs.Drains.{Turns, Drains, Grows, IsReadySkip};
+ghost use Rattle.dur_hub.specs.Drains.{Turns, Drains, IsReadySkip};
 
 use crate::End;
 use crate::ledger::{Ledger, Refused};
@@ -30,8 +30,7 @@ fn take_sample(
     requires has { HasSample proxy.old }
     requires next { number ≡ proxy.old.next }
     requires short { number < 2 ^ 63 - 1 }
-    ensures turns { Turns ledger.old proxy.old writer stored moment result ledger.new proxy.new }
-    ensures grows { Grows result proxy.old.next proxy.new.next }
+    ensures { Turns ledger.old proxy.old writer stored moment result ledger.new proxy.new }
 {
     let sample = match proxy.sample().copy() {
         Ok(sample) => sample,
@@ -70,8 +69,7 @@ fn take_skip(
 ) -> Turned
     requires ready { IsReadySkip proxy.old from to }
     requires short { (proxy.old.next < 2 ^ 63 - 1) × (to < 2 ^ 63 - 1) }
-    ensures turns { Turns ledger.old proxy.old writer stored moment result ledger.new proxy.new }
-    ensures grows { Grows result proxy.old.next proxy.new.next }
+    ensures { Turns ledger.old proxy.old writer stored moment result ledger.new proxy.new }
 {
     match ledger.admit(
         Entry::Skip {
@@ -92,8 +90,7 @@ fn take_skip(
 
 /// Admits what is ready at the writer's next number.
 fn turn(ledger: &mut Ledger, proxy: &mut Proxy, writer: Guid, stored: bool, moment: Ticks) -> Turned
-    ensures turns { Turns ledger.old proxy.old writer stored moment result ledger.new proxy.new }
-    ensures grows { Grows result proxy.old.next proxy.new.next }
+    ensures { Turns ledger.old proxy.old writer stored moment result ledger.new proxy.new }
 {
     let number = proxy.next();
     if number.get() >= GREATEST_NUMBER {

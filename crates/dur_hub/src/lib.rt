@@ -33,4 +33,8 @@ pub use law::{
 pub use reply::{Ack, Counts, HubState, Received, Refusal, SnapFault};
 
 #[cfg(test)]
+mod examples;
+#[cfg(test)]
+mod storing_tests;
+#[cfg(test)]
 mod tests;

@@ -5,7 +5,7 @@ ghost use Rattle.std.specs.VecDeque.{deque_len, deque_capacity};
 ghost use Rattle.dur_base.specs.declared.entry.Entry.{Entry};
 ghost use Rattle.dur_view.specs.History.{HasShortNumber};
 ghost use Rattle.dur_hub.specs.Marks.{IsAt};
-ghost use Rattle.dur_hub.specs.Queues.{passed_by, joined, Lined, Queued, HasRoom, FirstTaken, TakenAll};
+ghost use Rattle.dur_hub.specs.Queues.{passed_by, joined, Lined, Queued, HasRoom, SameMarks, FirstTaken, TakenAll};
 
 use dur_base::{Entry, Guid, List, Number, OutOfMemory};
 use dur_view::Batch;
@@ -100,9 +100,7 @@ impl Queue {
     /// Makes room for one entry more.
     pub fn reserve(&mut self) -> Result<(), OutOfMemory>
         ensures same { (self.new.full.items ≡ self.old.full.items)
-            × (self.new.last.items ≡ self.old.last.items)
-            × (self.new.unmarked.items ≡ self.old.unmarked.items)
-            × (self.new.taken ≡ self.old.taken) × (self.new.durable ≡ self.old.durable) }
+            × (self.new.last.items ≡ self.old.last.items) × SameMarks self.old self.new }
         ensures room { OnOk result (HasRoom self.new) }
     {
         self.last.reserve(1)?;
@@ -159,8 +157,7 @@ impl Queue {
     fn first(&mut self) -> List<Entry>
         ensures first { (t d : ℕ) (es : List Entry) → Queued self.old t d es
             → FirstTaken self.old self.new result t es }
-        ensures same { (self.new.unmarked.items ≡ self.old.unmarked.items)
-            × (self.new.taken ≡ self.old.taken) × (self.new.durable ≡ self.old.durable) }
+        ensures same { SameMarks self.old self.new }
     {
         match self.full.pop_front() {
             Some(list) => list,
@@ -201,8 +198,7 @@ impl Queue {
     // The lists without the entries that were not handed out.
     fn clear(&mut self)
         ensures pending { (self.new.full.items ≡ []) × (self.new.last.items ≡ []) }
-        ensures same { (self.new.unmarked.items ≡ self.old.unmarked.items)
-            × (self.new.taken ≡ self.old.taken) × (self.new.durable ≡ self.old.durable) }
+        ensures same { SameMarks self.old self.new }
     {
         self.full.clear();
         self.last.clear();

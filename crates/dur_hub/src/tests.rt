@@ -1,179 +1,26 @@
 //! Datagrams in hard orders, with what a hub makes of them worked out by hand.
 
-ghost use Rattle.std.specs.Prelude.{◌≡◌, [], IfOk, IfSome};
-ghost use Rattle.dur_base.specs.Goodness.{IsGoodRaw};
-ghost use Rattle.dur_qos.specs.Good.{GoodPlan};
-ghost use Rattle.rtps_message.specs.Facts.{IsGoodFact, AreGood};
 ghost use Rattle.dur_hub.specs.Hubs.{StandsForSome};
 
-use crate::{Ack, Hub, Received, SnapFault, hubs_open_over_blank_views};
-use bytes::Bytes;
-use dur_base::{Bits, EntityId, Fact, Form, Guid, Key, List, Number, Payload, Raw, SetMark, Ticks};
-use dur_qos::{Plan, PlanFault, PlanReader};
-use dur_view::{Limit, View};
+use crate::Hub;
+use crate::examples::{
+    AA, BB, EVERYBODY, KEEP_3, PERSISTENT, W, ack_of, beat, data, end_of, gap, hears, in_set_1,
+    is_refused, number, opened, raw, read, short_lived, told,
+};
+use crate::left_behind::{Leaver, left_behind};
+use dur_base::{Bits, EntityId, Entry, Ticks};
+use dur_view::Limit;
 use std::alloc::Global;
+use std::collections::VecDeque;
 
-const W: Guid = Guid([
-    0xa1, 0xa1, 0xa1, 0xa1, 0xa1, 0xa1, 0xa1, 0xa1, 0xa1, 0xa1, 0xa1, 0xa1, 0, 0, 1, 2,
-]);
-
-const R: Guid = Guid([
-    0xb2, 0xb2, 0xb2, 0xb2, 0xb2, 0xb2, 0xb2, 0xb2, 0xb2, 0xb2, 0xb2, 0xb2, 0, 0, 1, 7,
-]);
-
-const AA: Key = Key([0xaa; 16]);
-
-const BB: Key = Key([0xbb; 16]);
-
-const EVERYBODY: EntityId = EntityId([0; 4]);
-
-const KEEP_3: &[u8] =
-    b"prefix 0102030405060708\ntopic T transient hash 3 - - - - 0\nwriter a1a1a1a1a1a1a1a1a1a1a1a100000102 T -\nend\n";
-
-const PERSISTENT: &[u8] =
-    b"prefix 0102030405060708\ntopic T persistent hash 10 - - - - 0\nwriter a1a1a1a1a1a1a1a1a1a1a1a100000102 T -\nreader b2b2b2b2b2b2b2b2b2b2b2b200000107 T transient\nend\n";
-
-fn read(alloc: Global, text: &[u8]) -> Result<Plan, PlanFault>
-    ensures { IfOk result (λ p. GoodPlan p) }
+// Those that the first lease step has to lose, under a plan without writers over the view that a hub hands out.
+fn left_after(hub: &mut Hub, alloc: Global) -> Option<VecDeque<Leaver>>
+    requires { StandsForSome hub.old }
 {
-    let mut reader = PlanReader::new(alloc);
-    match reader.push(text) {
-        Ok(_) => reader.finish(),
-        Err(fault) => Err(fault),
-    }
-}
-
-fn opened(alloc: Global, text: &[u8]) -> Option<Hub>
-    ensures { IfSome result (λ hub. StandsForSome hub) }
-{
-    let plan = match read(alloc, text) {
-        Ok(plan) => plan,
-        Err(_) => return None,
-    };
-    let view = match View::blank(&plan) {
-        Ok(view) => view,
-        Err(_) => return None,
-    };
-    hubs_open_over_blank_views();
-    match Hub::new(alloc, plan, view, 1) {
-        Ok(hub) => Some(hub),
-        Err(_) => None,
-    }
-}
-
-fn number(value: u64) -> Number {
-    match Number::new(value) {
-        Some(number) => number,
-        None => Number::one(),
-    }
-}
-
-fn raw(key: Key) -> Raw
-    ensures good { IsGoodRaw result }
-    ensures payload { result.payload ≡ [] }
-{
-    Raw {
-        hash: Some(key),
-        status: 0,
-        stamp: None,
-        lifespan: None,
-        set: SetMark::NoSet,
-        original: None,
-        form: Form::Data,
-        payload: Payload::of(Bytes::new()),
-    }
-}
-
-fn told(value: u64, reader: EntityId, raw: Raw) -> Fact
-    requires { IsGoodRaw raw }
-    ensures { IsGoodFact result }
-{
-    Fact::Data {
-        writer: W,
-        reader,
-        number: number(value),
-        raw,
-    }
-}
-
-fn data(value: u64, key: Key) -> Fact
-    ensures { IsGoodFact result }
-{
-    told(value, EVERYBODY, raw(key))
-}
-
-// A sample of the set that begins at number 1.
-fn in_set_1(value: u64) -> Fact
-    ensures { IsGoodFact result }
-{
-    let mut raw = raw(AA);
-    raw.set = SetMark::Of(Number::one());
-    told(value, EVERYBODY, raw)
-}
-
-// A sample that lives for a second.
-fn short_lived(value: u64) -> Fact
-    ensures { IsGoodFact result }
-{
-    let mut raw = raw(AA);
-    raw.lifespan = Some(Ticks(0x1_0000_0000));
-    told(value, EVERYBODY, raw)
-}
-
-// The writer disposes of the instance, and unregisters from it.
-fn end_of(value: u64) -> Fact
-    ensures { IsGoodFact result }
-{
-    let mut raw = raw(AA);
-    raw.status = 3;
-    raw.form = Form::Nothing;
-    told(value, EVERYBODY, raw)
-}
-
-fn beat(first: u64, last: u64) -> Fact
-    ensures { IsGoodFact result }
-{
-    Fact::Beat {
-        writer: W,
-        reader: EVERYBODY,
-        first: number(first),
-        last,
-        is_final: false,
-    }
-}
-
-fn hears(hub: &mut Hub, alloc: Global, moment: u64, fact: Fact) -> Option<Received>
-    requires { IsGoodFact fact }
-    ensures { StandsForSome hub.old → StandsForSome hub.new }
-{
-    let mut facts = List::new(alloc);
-    match facts.push(fact) {
-        Ok(()) => Some(hub.receive(alloc, Ticks(moment), facts)),
-        Err(_) => None,
-    }
-}
-
-// Whether the one sample of a datagram was refused at this number for this limit.
-fn is_refused(reply: Option<Received>, value: u64, limit: Limit) -> bool {
-    match reply {
-        Some(reply) => match reply.refused.as_slice() {
-            [refusal] => refusal.writer == W
-                && refusal.number == number(value)
-                && refusal.limit == limit,
-            _ => false,
-        },
-        None => false,
-    }
-}
-
-// The acknowledgement of a reply that has one.
-fn ack_of(reply: Option<Received>) -> Option<Ack> {
-    match reply {
-        Some(reply) => match reply.acks.as_slice() {
-            [ack] => Some(*ack),
-            _ => None,
-        },
-        None => None,
+    let text = b"prefix 0102030405060708\ntopic T persistent hash 10 - - - - 0\nend\n";
+    match (read(alloc, text), hub.take_view(alloc)) {
+        (Ok(plan), Ok((_, view))) => left_behind(alloc, &plan, &view).ok(),
+        _ => None,
     }
 }
 
@@ -210,6 +57,18 @@ fn what_is_missing_is_asked_for(rt: HostRuntime) {
 }
 
 #[test]
+fn what_lies_beyond_the_window_is_not_known(rt: HostRuntime) {
+    let alloc = rt.alloc();
+    let mut hub = opened(alloc, KEEP_3).expect(&rt, "memory");
+    for value in [257, 256] {
+        let _reply = hears(&mut hub, alloc, 5, data(value, AA)).expect(&rt, "memory");
+    }
+    let ack = ack_of(hears(&mut hub, alloc, 6, beat(1, 257))).expect(&rt, "an acknowledgement");
+    let all = 0xffff_ffff;
+    assert!(rt; ack.set == Bits::of(number(1), [all, all, all, all, all, all, all, 0xffff_fffe]));
+}
+
+#[test]
 fn numbers_that_are_no_longer_there_are_one_skip(rt: HostRuntime) {
     let alloc = rt.alloc();
     let mut hub = opened(alloc, KEEP_3).expect(&rt, "memory");
@@ -223,70 +82,50 @@ fn numbers_that_are_no_longer_there_are_one_skip(rt: HostRuntime) {
 }
 
 #[test]
-fn nothing_is_acknowledged_before_its_mark(rt: HostRuntime) {
-    let alloc = rt.alloc();
-    let mut hub = opened(alloc, PERSISTENT).expect(&rt, "memory");
-    let _reply = hears(&mut hub, alloc, 5, data(1, AA)).expect(&rt, "memory");
-    let ack = ack_of(hears(&mut hub, alloc, 5, beat(1, 1))).expect(&rt, "an acknowledgement");
-    assert!(rt; ack.set == Bits::empty(number(1)) && !ack.is_final && ack.count == 1);
-    assert!(rt; hub.has_pending());
-    let batch = hub.take();
-    assert!(rt; batch.from == 0 && batch.entries.len() == 1 && !hub.has_pending());
-    let _reply = hears(&mut hub, alloc, 6, data(2, AA)).expect(&rt, "memory");
-    hub.mark(1);
-    let ack = ack_of(hears(&mut hub, alloc, 6, beat(1, 2))).expect(&rt, "an acknowledgement");
-    assert!(rt; ack.set == Bits::empty(number(2)) && !ack.is_final && ack.count == 2);
-    let batch = hub.take();
-    assert!(rt; batch.from == 1 && batch.entries.len() == 1);
-}
-
-#[test]
-fn a_reader_is_served_once(rt: HostRuntime) {
-    let alloc = rt.alloc();
-    let mut hub = opened(alloc, PERSISTENT).expect(&rt, "memory");
-    let _reply = hears(&mut hub, alloc, 5, data(1, AA)).expect(&rt, "memory");
-    match hub.snapshot(alloc, Ticks(6), R) {
-        Ok(snapshot) => match snapshot.changes.as_slice() {
-            [change] => assert!(rt; change.original == W && change.number == number(1)),
-            _ => assert!(rt; false),
-        },
-        Err(_) => assert!(rt; false),
-    }
-    assert!(rt; hub.snapshot(alloc, Ticks(7), R).err() == Some(SnapFault::Already));
-    assert!(rt; hub.snapshot(alloc, Ticks(7), W).err() == Some(SnapFault::Unknown));
-    assert!(rt; hub.last() == Ticks(6) && hub.counts().replays == 1);
-}
-
-#[test]
-fn a_view_keeps_the_members_of_an_open_set(rt: HostRuntime) {
-    let alloc = rt.alloc();
-    let mut hub = opened(alloc, PERSISTENT).expect(&rt, "memory");
-    let _reply = hears(&mut hub, alloc, 5, in_set_1(1)).expect(&rt, "memory");
-    let _reply = hears(&mut hub, alloc, 5, in_set_1(2)).expect(&rt, "memory");
-    match hub.take_view(alloc) {
-        Ok((batch, view)) => match view.writers.as_slice() {
-            [line] => assert!(rt;
-                batch.entries.len() == 2 && line.held.len() == 2 && line.next == number(3)
-            ),
-            _ => assert!(rt; false),
-        },
-        Err(_) => assert!(rt; false),
-    }
-}
-
-#[test]
 fn a_silent_writer_is_lost_after_its_lease(rt: HostRuntime) {
     let alloc = rt.alloc();
     let text =
-        b"prefix 0102030405060708\ntopic T transient hash 1 - - - - 0\nwriter a1a1a1a1a1a1a1a1a1a1a1a100000102 T 2\nend\n";
+        b"prefix 0102030405060708\ntopic T transient hash 1 - 1 - - 0\nwriter a1a1a1a1a1a1a1a1a1a1a1a100000102 T 2\nend\n";
     let mut hub = opened(alloc, text).expect(&rt, "memory");
-    let _reply = hears(&mut hub, alloc, 1, data(1, AA)).expect(&rt, "memory");
-    let _reply = hub.tick(alloc, Ticks(8_589_934_593));
-    assert!(rt; hub.counts().entries == 1);
-    let reply = hub.tick(alloc, Ticks(8_589_934_594));
-    assert!(rt; !reply.stopped && reply.handled == 0 && hub.counts().entries == 2);
-    let _reply = hub.tick(alloc, Ticks(17_179_869_186));
+    let _reply = hears(&mut hub, alloc, 0, data(1, AA)).expect(&rt, "memory");
+    let _reply = hears(&mut hub, alloc, 1, end_of(2, 1)).expect(&rt, "memory");
+    let _reply = hears(&mut hub, alloc, 8_589_934_593, beat(3, 2)).expect(&rt, "memory");
     assert!(rt; hub.counts().entries == 2);
+    let late = 17_179_869_186;
+    for _ in 0..2 {
+        let reply = hub.tick(alloc, Ticks(late));
+        assert!(rt; !reply.stopped && reply.handled == 0 && hub.counts().entries == 3);
+    }
+    // The key that it disposed of is quiet from now on, and exists at this moment.
+    assert!(rt;
+        is_refused(
+            hears(&mut hub, alloc, late, data(3, BB)),
+            3,
+            Limit::Instances
+        )
+    );
+    let reply = hears(&mut hub, alloc, late + 1, data(3, BB)).expect(&rt, "memory");
+    assert!(rt; reply.refused.len() == 0 && hub.counts().entries == 4);
+}
+
+#[test]
+fn a_writer_that_is_left_behind_is_lost_first(rt: HostRuntime) {
+    let alloc = rt.alloc();
+    let mut hub = opened(alloc, PERSISTENT).expect(&rt, "memory");
+    let _reply = hears(&mut hub, alloc, 5, in_set_1(1)).expect(&rt, "memory");
+    // A plan that no longer has the writer, over what is kept of its open set.
+    let leaving = left_after(&mut hub, alloc).expect(&rt, "memory");
+    assert!(rt; leaving.len() == 1);
+    let mut hub = opened(alloc, PERSISTENT).expect(&rt, "memory");
+    hub.leaving = leaving;
+    for _ in 0..2 {
+        let reply = hub.tick(alloc, Ticks(7));
+        assert!(rt; !reply.stopped && hub.counts().entries == 1);
+    }
+    match hub.take().entries.as_slice() {
+        [Entry::Lost { moment, writer }] => assert!(rt; *moment == Ticks(7) && *writer == W),
+        _ => assert!(rt; false),
+    }
 }
 
 #[test]
@@ -320,7 +159,7 @@ fn an_instance_that_is_there_counts(rt: HostRuntime) {
         b"prefix 0102030405060708\ntopic T transient hash 1 - 1 - - 0\nwriter a1a1a1a1a1a1a1a1a1a1a1a100000102 T -\nend\n";
     let mut hub = opened(alloc, text).expect(&rt, "memory");
     let _reply = hears(&mut hub, alloc, 5, data(1, AA)).expect(&rt, "memory");
-    let _reply = hears(&mut hub, alloc, 5, end_of(2)).expect(&rt, "memory");
+    let _reply = hears(&mut hub, alloc, 5, end_of(2, 3)).expect(&rt, "memory");
     assert!(rt; is_refused(hears(&mut hub, alloc, 5, data(3, BB)), 3, Limit::Instances));
     let reply = hears(&mut hub, alloc, 6, data(3, BB)).expect(&rt, "memory");
     assert!(rt; reply.refused.len() == 0 && hub.counts().entries == 3);
@@ -331,13 +170,7 @@ fn a_gap_breaks_a_set(rt: HostRuntime) {
     let alloc = rt.alloc();
     let mut hub = opened(alloc, KEEP_3).expect(&rt, "memory");
     let _reply = hears(&mut hub, alloc, 5, in_set_1(1)).expect(&rt, "memory");
-    let gap = Fact::Gap {
-        writer: W,
-        reader: EVERYBODY,
-        start: number(2),
-        set: Bits::empty(number(3)),
-    };
-    let _reply = hears(&mut hub, alloc, 5, gap).expect(&rt, "memory");
+    let _reply = hears(&mut hub, alloc, 5, gap(2)).expect(&rt, "memory");
     let _reply = hears(&mut hub, alloc, 5, data(3, AA)).expect(&rt, "memory");
     let listed = hub.listing(alloc, 0, Ticks(5)).expect(&rt, "memory");
     match listed.changes.as_slice() {
@@ -355,29 +188,4 @@ fn what_another_reader_is_told_is_not_heard(rt: HostRuntime) {
     let fact = told(1, EntityId([0, 0, 2, 7]), raw(AA));
     let reply = hears(&mut hub, alloc, 5, fact).expect(&rt, "memory");
     assert!(rt; reply.handled == 1 && hub.counts().entries == 0);
-}
-
-#[test]
-fn a_reader_of_more_than_is_kept_is_not_served(rt: HostRuntime) {
-    let alloc = rt.alloc();
-    let text =
-        b"prefix 0102030405060708\ntopic T transient hash 3 - - - - 0\nreader b2b2b2b2b2b2b2b2b2b2b2b200000107 T persistent\nend\n";
-    let mut hub = opened(alloc, text).expect(&rt, "memory");
-    assert!(rt; hub.snapshot(alloc, Ticks(7), R).err() == Some(SnapFault::NotServed));
-}
-
-#[test]
-fn a_mark_of_a_part_moves_the_base_so_far(rt: HostRuntime) {
-    let alloc = rt.alloc();
-    let mut hub = opened(alloc, PERSISTENT).expect(&rt, "memory");
-    for value in [1, 2] {
-        let _reply = hears(&mut hub, alloc, 5, data(value, AA)).expect(&rt, "memory");
-    }
-    let batch = hub.take();
-    assert!(rt; batch.entries.len() == 2);
-    for (upto, base) in [(1, 2), (2, 3)] {
-        hub.mark(upto);
-        let ack = ack_of(hears(&mut hub, alloc, 6, beat(1, 2))).expect(&rt, "an acknowledgement");
-        assert!(rt; ack.set == Bits::empty(number(base)) && ack.is_final == (base == 3));
-    }
 }
