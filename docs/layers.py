@@ -3,9 +3,9 @@
 import os
 
 LAYERS = [
-    ("program", [("durability", "command line, listing"), ("dur_rerun", "statuses, show")]),
+    ("program", [("durability", "command line, faults"), ("dur_rerun", "statuses, list, show")]),
     ("service", [("dur_hub", "one admitted history"), ("rel_writer", "sessions, late readers"), ("dur_record", "texts of a journal")]),
-    ("histories", [("dur_topic", "history of one topic"), ("dur_store", "history of all topics"), ("dur_view", "definitions and laws")]),
+    ("histories", [("dur_store", "history of all topics"), ("dur_view", "definitions and laws")]),
     ("streams", [("dur_capture", "records of a capture"), ("dur_qos", "plan text"), ("rel_reader", "known numbers")]),
     ("wire", [("rtps_params", "parameter lists"), ("rtps_submsg", "submessages"), ("rtps_message", "facts, keys, messages")]),
     ("threads", [("dur_turn", "one call at a time"), ("turn_uses", "uses of a turn, tests")]),
@@ -38,7 +38,7 @@ def layer(row, name, crates, at):
 def way(at):
     """The way of a datagram: outside, capture, wire, and from there by way of the store, or to the printer of `show`."""
     outside, capture, wire, store, program, printer = (
-        at[name] for name in ("dur_outside", "dur_capture", "rtps_params", "dur_topic", "durability", "dur_rerun")
+        at[name] for name in ("dur_outside", "dur_capture", "rtps_params", "dur_store", "durability", "dur_rerun")
     )
     middle, centre, top = TALL // 2, LEFT + BOX // 2, wire[1] - 8
     yield f"M{LEFT} {outside[1] + middle} C{LEFT - 26} {outside[1] + middle} {LEFT - 26} {capture[1] + middle} {LEFT} {capture[1] + middle}"
@@ -59,7 +59,7 @@ def drawing():
         yield from layer(row, name, crates, at)
     for line in way(at):
         yield f'<path d="{line}" fill="none" stroke="{WAY}" stroke-width="1.6" marker-end="url(#tip)"/>'
-    for row, words in enumerate(("the way of a datagram:", "list: octets, record, entry, line", "show: octets, record, facts, line")):
+    for row, words in enumerate(("the way of a datagram:", "list: octets, record, entries, line", "show: octets, record, facts, line")):
         yield f'<text x="{LEFT + 2 * (BOX + GAP)}" y="{34 + row * 16}" fill="{WAY}" font-size="12">{words}</text>'
     yield "</svg>"
 

@@ -8,3 +8,4 @@ if ! command -v python3 > /dev/null; then echo "tests/captures.sh: skipped, pyth
 tests/captures/inline_lists.sh
 tests/captures/submessages.sh
 tests/captures/show.sh
+tests/captures/list.sh

@@ -28,6 +28,11 @@ python3 tools/capture_from_hex.py < examples/first/capture.hex | cmp - examples/
 python3 tools/pcap_to_capture.py --summary examples/fastdds/capture.pcap 2> /dev/null | sed 's/^./    &/' > "$folder/summary"
 sed -n '/^    participant /,/^    Note: where /p' examples/README.md | cmp - "$folder/summary" || fails "summary: examples/README.md says something else"
 echo "summary: as examples/README.md says"
+sed -n 's/^    //p' examples/README.md > "$folder/page"
+sed -n '/^prefix 0000000000000000$/,/^end$/p;/^end$/q' "$folder/page" | cmp - examples/two_writers/plan.txt || fails "two_writers: examples/README.md has another plan"
+python3 tools/pcap_to_capture.py --plan examples/two_writers/plan.txt examples/two_writers/capture.pcap 2> /dev/null | "$program" list > "$folder/out" || fails "two_writers: list ended with $?"
+grep '^T 0110' "$folder/page" | cmp - "$folder/out" || fails "two_writers: examples/README.md has another listing"
+echo "two_writers: as examples/README.md says"
 for name in cyclonedds fastdds; do
     python3 tools/pcap_to_capture.py --plan "examples/$name/plan.txt" "examples/$name/capture.pcap" > "$folder/in" 2> "$folder/told" || fails "$name: $(cat "$folder/told")"
     "$program" show < "$folder/in" > "$folder/out" || fails "$name: show ended with $?"

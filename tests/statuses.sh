@@ -14,7 +14,6 @@ plan=examples/first/plan.txt
 guid='\241\241\241\241\241\241\241\241\241\241\241\241'
 cat "$plan" examples/first/capture.bin > "$folder/input"
 (cat "$plan"; printf '\0\0\0\0\0\0\0\0\0\0\344\377\0\0') > "$folder/long"
-(cat "$plan"; printf '\0\0\0\0\0\0\0\0\0\0\1\0\0\0\0') > "$folder/other"
 printf 'prefix 0102030405060708\ntopic\n' > "$folder/bad_plan"
 # A capture of 30,000 samples, which is more than 6 MB hold.
 cp "$plan" "$folder/many"
@@ -46,6 +45,5 @@ ends 4 'durability: input 10 LongDatagram' '"$program" show < "$folder/long"'
 ends 5 'durability: read fault' '"$program" show < /'
 ends 6 'durability: write fault' '"$program" show < "$folder/input" > /dev/full'
 ends 8 'durability: plan 2 Word' '"$program" show < "$folder/bad_plan"'
-ends 14 "durability: not yet $(wc -c < "$plan")" '"$program" list < "$folder/other"'
 [ "$failed" = 0 ] && echo "each status: as its input calls for"
 exit "$failed"

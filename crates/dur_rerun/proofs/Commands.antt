@@ -6,8 +6,9 @@ use Rattle.bytes.proofs.Ranges.{take-append_past}
 use Rattle.dur_outside.specs.World.{Image}
 use Rattle.dur_outside.specs.Causes.{Rose}
 use Rattle.dur_rerun.specs.declared.status.Status.{Status}
-use Rattle.dur_rerun.specs.declared.status.Status.TheVariants.{Done, Usage, OutOfMemory, Input, ReadFault, WriteFault, Plan, NotYet}
+use Rattle.dur_rerun.specs.declared.status.Status.TheVariants.{Done, Usage, OutOfMemory, Input, ReadFault, WriteFault, Plan}
 use Rattle.dur_rerun.specs.Command.{IsTold, IsFunction, HasReason, Arrives, GoesOut, Keeps}
+use Rattle.dur_rerun.specs.Input.Whole.{IsWholeInput}
 use Rattle.dur_rerun.specs.Saying.{IsSaid, wrote}
 
 pub if_some : {X : Type 0} (o : Option X) (P Q : X → Type 0) → ((x : X) → P x → Q x) → IfSome o P → IfSome o Q
@@ -92,7 +93,16 @@ answer_comes answers laws input text t (Input place fault) a P Q h read write to
 answer_comes answers laws input text t ReadFault a P Q h read write told other p q = absurd (p (read refl))
 answer_comes answers laws input text t WriteFault a P Q h read write told other p q = absurd (q (write refl))
 answer_comes answers laws input text t (Plan line kind) a P Q h read write told other p q = inl (laws.once input text t (Plan line kind) a tt told h other).1
-answer_comes answers laws input text t (NotYet place) a P Q h read write told other p q = inl (laws.once input text t (NotYet place) a tt told h other).1
+
+whole_comes : (answers : List ℕ → List ℕ → Status → Type 0) → IsFunction answers → (input text : List ℕ) (s : Status) (P Q : Type 0) → IsWholeInput input → answers input text s → (s ≡ ReadFault → P) → (s ≡ WriteFault → Q)
+    → (P → ⊥) → (Q → ⊥) → (s ≡ Done) ⊎ (s ≡ OutOfMemory)
+whole_comes answers laws input text Done P Q w h read write p q = inl refl
+whole_comes answers laws input text Usage P Q w h read write p q = absurd (laws.words input text h)
+whole_comes answers laws input text OutOfMemory P Q w h read write p q = inr refl
+whole_comes answers laws input text (Input place fault) P Q w h read write p q = inl (laws.whole input text (Input place fault) w tt h)
+whole_comes answers laws input text ReadFault P Q w h read write p q = absurd (p (read refl))
+whole_comes answers laws input text WriteFault P Q w h read write p q = absurd (q (write refl))
+whole_comes answers laws input text (Plan line kind) P Q w h read write p q = inl (laws.whole input text (Plan line kind) w tt h)
 
 silent_comes : (answers : List ℕ → List ℕ → Status → Type 0) → IsFunction answers → (input text : List ℕ) (s a : Status) (P : Type 0) → answers input text s → (s ≡ ReadFault → P) → IsTold a → answers input [] a
     → (P → ⊥) → (s ≡ a) ⊎ (s ≡ OutOfMemory)
@@ -103,7 +113,6 @@ silent_comes answers laws input text (Input place fault) a P h read told other p
 silent_comes answers laws input text ReadFault a P h read told other p = absurd (p (read refl))
 silent_comes answers laws input text WriteFault a P h read told other p = absurd (laws.writes input text a told h other)
 silent_comes answers laws input text (Plan line kind) a P h read told other p = inl (laws.once input text [] (Plan line kind) a tt told h other).1
-silent_comes answers laws input text (NotYet place) a P h read told other p = inl (laws.once input text [] (NotYet place) a tt told h other).1
 
 -- where the relation is a function
 pub arrives : (answers : List ℕ → List ℕ → Status → Type 0) → IsFunction answers → (Ends : Status → Type 0) (known left : Option (List ℕ)) (s : Status) (read read_now written written_now : ℕ) (tells : Type 0) (old new : Image)
@@ -111,5 +120,6 @@ pub arrives : (answers : List ℕ → List ℕ → Status → Type 0) → IsFunc
 arrives answers laws Ends known left s read read_now written written_now tells old new reason out =
     if_some known (λ input. GoesOut answers input s tells old new) (λ input. Arrives answers input s read read_now written written_now) (λ input o. record {
       answer = λ t a told other p q. answer_comes answers laws input o.text t s a (Rose read read_now) (Rose written written_now) o.answers reason.read reason.write told other p q;
+      whole = λ w p q. whole_comes answers laws input o.text s (Rose read read_now) (Rose written written_now) w o.answers reason.read reason.write p q;
       silent = λ a told other p. silent_comes answers laws input o.text s a (Rose read read_now) o.answers reason.read told other p;
     }) out

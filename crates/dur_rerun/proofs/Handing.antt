@@ -11,7 +11,7 @@ use Rattle.dur_capture.specs.declared.fault.CapFault.TheVariants as cap
 use Rattle.dur_capture.specs.Capture.{record_text}
 use Rattle.dur_capture.specs.Feeding.{Feeding, Takes, Waits, Stops}
 use Rattle.dur_rerun.specs.declared.status.Status.{Status}
-use Rattle.dur_rerun.specs.declared.status.Status.TheVariants.{Done, Usage, OutOfMemory, Input, ReadFault, WriteFault, Plan, NotYet}
+use Rattle.dur_rerun.specs.declared.status.Status.TheVariants.{Done, Usage, OutOfMemory, Input, ReadFault, WriteFault, Plan}
 use Rattle.dur_rerun.specs.Input.Breaks.{capture_status, EndsRecords, EndsRefill}
 use Rattle.dur_rerun.specs.Input.Records.{total, given, Refills, HandsOut, Ends, BreaksOff, StopsRecords}
 
@@ -93,7 +93,6 @@ refill_ends Usage ends = absurd ends
 refill_ends WriteFault ends = absurd ends
 refill_ends (Input place fault) ends = absurd ends
 refill_ends (Plan line kind) ends = absurd ends
-refill_ends (NotYet place) ends = absurd ends
 
 pub refill_stops : (s : Status) (known now : Option (List ℕ)) (old : Feeding) → EndsRefill s → StopsRecords known now old s
 refill_stops ReadFault known now old ends = tt
@@ -103,7 +102,6 @@ refill_stops Usage known now old ends = absurd ends
 refill_stops WriteFault known now old ends = absurd ends
 refill_stops (Input place fault) known now old ends = absurd ends
 refill_stops (Plan line kind) known now old ends = absurd ends
-refill_stops (NotYet place) known now old ends = absurd ends
 
 -- ---- pieces
 

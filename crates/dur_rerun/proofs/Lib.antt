@@ -1,12 +1,13 @@
-pub mod Admits
+pub mod Admitting
 pub mod Commands
 pub mod Handing
 pub mod Lists
-pub mod OneAnswer
+pub mod OneInput
+pub mod OneList
 pub mod OneShow
-pub mod OneWay
 pub mod Opens
 pub mod Rest
 pub mod Says
 pub mod Shows
+pub mod Taking
 pub mod Whole

@@ -1,112 +1,129 @@
--- What the rest of an input admits behind its plan holds of the whole input.
-use Rattle.std.proofs.Common.{◌≡◌, ◌≢◌, ℕ, ◌-◌, ◌<◌, ◌≤◌, List, [], ◌++◌, length, take, drop, Option, Result, Ok, Err, refl, sym, ap, subst, ◌∙◌, arith, inl, inr}
+-- What a hub lists behind a plan is the text for the whole input.
+use Rattle.std.proofs.Common.{◌≡◌, ◌≢◌, ℕ, ◌+◌, ◌<◌, ◌≤◌, ◌^◌, max, List, [], ◌∷◌, ◌++◌, length, drop, Option, None, Result, Ok, Err, refl, sym, ap, subst, ◌∙◌, append_assoc, arith, inl, inr}
 use Rattle.std.specs.Prelude.{IfSome, OnOk, OnErr, IfErr}
 use Rattle.std.specs.Io.KnownBytes.{Consumes, IsAtEnd}
-use Rattle.std.proofs.lemmas.List.{take-append-le, length-take-le}
 use Rattle.dur_outside.specs.World.{Image}
 use Rattle.dur_outside.specs.Causes.{Rose}
 use Rattle.dur_capture.specs.Feeding.{Feeding}
+use Rattle.dur_capture.specs.Whole.{BreaksAt}
 use Rattle.dur_qos.specs.declared.plan.Plan.{Plan as PlanOf}
+use Rattle.dur_qos.specs.declared.plan.Topic.{Topic}
+use Rattle.dur_qos.specs.Good.{GoodPlan}
 use Rattle.dur_qos.specs.Text.{PlanText}
-use Rattle.dur_topic.specs.History.{entitled}
+use Rattle.dur_qos.proofs.Goods.{text_good}
+use Rattle.dur_view.specs.declared.change.Change.{Change}
+use Rattle.dur_view.specs.Full.{blank}
+use Rattle.dur_hub.specs.declared.event.Event.{Event}
+use Rattle.dur_hub.specs.declared.hub.Hub.{Hub}
+use Rattle.dur_hub.specs.Runs.{Run, opening}
+use Rattle.dur_hub.specs.Legal.{run_after}
+use Rattle.dur_hub.specs.Replays.{listing}
+use Rattle.dur_hub.specs.Hubs.{Stands}
 use Rattle.dur_rerun.specs.declared.input.plan.Opened.{Opened}
-use Rattle.dur_rerun.specs.declared.list.one_topic.OneTopic.{OneTopic}
 use Rattle.dur_rerun.specs.declared.status.Status.{Status}
-use Rattle.dur_rerun.specs.declared.status.Status.TheVariants.{Done, Usage, OutOfMemory, Input, ReadFault, WriteFault, Plan, NotYet}
+use Rattle.dur_rerun.specs.declared.status.Status.TheVariants.{Done, Usage, OutOfMemory, Input, ReadFault, WriteFault, Plan}
+use Rattle.dur_rerun.specs.Admission.{BringAll}
 use Rattle.dur_rerun.specs.Command.{HasReason, GoesOut, status_of}
 use Rattle.dur_rerun.specs.Saying.{IsSaid, wrote}
-use Rattle.dur_rerun.specs.Input.Breaks.{EndsPlan, StopsPlan}
+use Rattle.dur_rerun.specs.Input.Breaks.{EndsPlan, StopsPlan, EndsRecords}
 use Rattle.dur_rerun.specs.Input.Plan.{Opens}
 use Rattle.dur_rerun.specs.Input.Prefix.{own_prefix}
-use Rattle.dur_rerun.specs.List.OneTopic.{plan_at}
-use Rattle.dur_rerun.specs.List.Admission.{State}
-use Rattle.dur_rerun.specs.List.History.{AdmitsWhole, StopsRest, EndsRest}
-use Rattle.dur_rerun.specs.List.Answer.{Declares, Lists, ListAnswers, ListEnds, EndsUnwritten}
-use Rattle.dur_rerun.specs.List.Line.{list_text}
+use Rattle.dur_rerun.specs.List.Line.{topic_text}
+use Rattle.dur_rerun.specs.List.Listing.{latest, lines_from, list_text, IsListing}
+use Rattle.dur_rerun.specs.List.History.{TakesWhole, StopsRest}
+use Rattle.dur_rerun.specs.List.Answer.{Lists, ListAnswers, ListEnds, EndsUnwritten}
+use Rattle.dur_rerun.proofs.Admitting.{calls_keep}
 use Rattle.dur_rerun.proofs.Commands.{if_some, if_any, all_out}
 use Rattle.dur_rerun.proofs.Whole.{plan_more, behind_plan, behind}
 
--- ---- the text of the plan
+-- ---- the text of a hub
 
-within_seen : (seen : List ℕ) (plan : PlanOf) (n : ℕ) → PlanText seen plan n → n ≤ length seen
-within_seen seen plan n t = omega (arith, t.size)
+-- one topic more
+pub lines_next : (run : Run) (now place : ℕ) (t : Topic) (ts : List Topic) (out new all : List ℕ) (changes : List Change) → changes ≡ listing run place now → new ≡ out ++ topic_text t.name changes
+    → out ++ lines_from run now place (t ∷ ts) ≡ all → new ++ lines_from run now (place + 1) ts ≡ all
+lines_next run now place t ts out new all changes listed step sofar =
+    let here : new ≡ out ++ topic_text t.name (listing run place now) = step ∙ ap (λ (c : List Change). out ++ topic_text t.name c) listed in
+    ap (λ (l : List ℕ). l ++ lines_from run now (place + 1) ts) here ∙ append_assoc out (topic_text t.name (listing run place now)) (lines_from run now (place + 1) ts) ∙ sofar
 
-pub text_size : (seen : List ℕ) (p : Opened) (o : Opens seen p) → length p.text ≡ o.n
-text_size seen p o = ap length o.begins.text_is ∙ length-take-le o.n seen (within_seen seen p.plan o.n o.plan_is)
+pub within_topics : (place n all : ℕ) (topics others : List Topic) → place + n ≡ length topics → 0 < n → topics ≡ others → place < length others
+within_topics place n all topics others sum some same = omega (arith, sum, some, ap length same)
 
-left_is : (seen : List ℕ) (p : Opened) (o : Opens seen p) → p.feed.left ≡ drop o.n seen
-left_is seen p o = ap (λ (f : Feeding). f.left) o.begins.feed_is
+-- ---- the plan in front
 
-text_more : (seen more : List ℕ) (p : Opened) (o : Opens seen p) → p.text ≡ take o.n (seen ++ more)
-text_more seen more p o = o.begins.text_is ∙ sym (take-append-le o.n seen more (within_seen seen p.plan o.n o.plan_is))
+pub plan_good : (seen : List ℕ) (p : Opened) → Opens seen p → GoodPlan p.plan
+plan_good seen p o = text_good seen p.plan o.n o.plan_is
 
--- a line of the plan is of another form
-pub line_stops : (known mid : Option (List ℕ)) (seen : List ℕ) (epoch : ℕ) (p : Opened) (o : Opens seen p) (left place : ℕ) → Consumes known mid seen → plan_at p.text ≡ Err left → place ≡ length p.text - left
-    → IfSome known (λ input. ListAnswers epoch input [] (NotYet place))
-line_stops known mid seen epoch p o left place consumed other place_is =
-    behind known mid seen (λ input. ListAnswers epoch input [] (NotYet place)) (λ tail. Unit {0}) consumed (if_any mid (λ tail. Unit {0}) (λ tail. tt)) (λ tail u. (
-      refl,
-      inl (record {
-        plan = p.plan;
-        n = o.n;
-        left = left;
-        plan_is = plan_more seen tail p.plan o.n o.plan_is;
-        other = ap plan_at (sym (text_more seen tail p o)) ∙ other;
-        place_is = place_is ∙ ap (λ (k : ℕ). k - left) (text_size seen p o);
-      }),
-    ))
+pub few_topics : (seen : List ℕ) (p : Opened) (topics : List Topic) → Opens seen p → topics ≡ p.plan.topics → length topics ≤ 1024
+few_topics seen p topics o same = omega (arith, (plan_good seen p o).topic_count, ap length same)
 
--- ---- behind the plan of one topic
+-- nothing was handed out of what came behind the plan
+pub fresh_feed : (seen : List ℕ) (p : Opened) → Opens seen p → (p.feed.before ≤ 2 ^ 40) × (p.feed.taken ≡ 0) × (p.feed.fault ≡ None)
+fresh_feed seen p o =
+    let before : p.feed.before ≡ o.n = ap (λ (f : Feeding). f.before) o.feed_is in
+    (omega (arith, before, o.within), ap (λ (f : Feeding). f.taken) o.feed_is, ap (λ (f : Feeding). f.fault) o.feed_is)
 
-lifted : (known mid : Option (List ℕ)) (seen : List ℕ) (p : Opened) (o : Opens seen p) (topic : OneTopic) (rest : List ℕ) (before : ℕ) (F : ℕ → List ℕ → Type 0) (P : List ℕ → Type 0) → Consumes known mid seen
-    → plan_at p.text ≡ Ok (topic, rest) → before ≡ length p.text → IfSome mid (λ tail. F before (p.feed.left ++ tail)) → ((input : List ℕ) → Declares input p.plan o.n topic → F o.n (drop o.n input) → P input) → IfSome known P
-lifted known mid seen p o topic rest before F P consumed topic_is size holds leads =
-    behind known mid seen P (λ tail. F before (p.feed.left ++ tail)) consumed holds (λ tail h.
-    let octets : p.feed.left ++ tail ≡ drop o.n (seen ++ tail) = ap (λ (l : List ℕ). l ++ tail) (left_is seen p o) ∙ behind_plan seen tail p.plan o.n o.plan_is in
-    leads (seen ++ tail) (record { rest = rest; plan_is = plan_more seen tail p.plan o.n o.plan_is; topic_is = ap plan_at (sym (text_more seen tail p o)) ∙ topic_is })
-    (subst (F o.n) octets (subst (λ (k : ℕ). F k (p.feed.left ++ tail)) (size ∙ text_size seen p o) h)))
+-- what holds of the octets behind the plan
+lifted : (known mid : Option (List ℕ)) (seen : List ℕ) (p : Opened) (o : Opens seen p) (F : ℕ → List ℕ → Type 0) (P : List ℕ → Type 0) → Consumes known mid seen
+    → IfSome mid (λ tail. F p.feed.before (p.feed.left ++ tail)) → ((input : List ℕ) → PlanText input p.plan o.n → F o.n (drop o.n input) → P input) → IfSome known P
+lifted known mid seen p o F P consumed holds leads =
+    behind known mid seen P (λ tail. F p.feed.before (p.feed.left ++ tail)) consumed holds (λ tail h.
+    let octets : p.feed.left ++ tail ≡ drop o.n (seen ++ tail) = ap (λ (f : Feeding). f.left ++ tail) o.feed_is ∙ behind_plan seen tail p.plan o.n o.plan_is in
+    leads (seen ++ tail) (plan_more seen tail p.plan o.n o.plan_is)
+    (subst (F o.n) octets (subst (λ (k : ℕ). F k (p.feed.left ++ tail)) (ap (λ (f : Feeding). f.before) o.feed_is) h)))
 
-pub lists : (known mid : Option (List ℕ)) (seen : List ℕ) (epoch : ℕ) (p : Opened) (o : Opens seen p) (topic : OneTopic) (rest own : List ℕ) (before depth : ℕ) (s : State) (text : List ℕ) → Consumes known mid seen
-    → plan_at p.text ≡ Ok (topic, rest) → before ≡ length p.text → own ≡ own_prefix epoch p.plan → IfSome mid (λ tail. AdmitsWhole own topic.writer before (p.feed.left ++ tail) s)
-    → text ≡ list_text topic.topic (entitled depth s.entries) → depth ≡ topic.depth → IfSome known (λ input. Lists epoch input text)
-lists known mid seen epoch p o topic rest own before depth s text consumed topic_is size own_is admits text_is depth_is =
-    lifted known mid seen p o topic rest before (λ n octets. AdmitsWhole own topic.writer n octets s) (λ input. Lists epoch input text) consumed topic_is size admits (λ input declares h. record {
+-- ---- the listing
+
+latest_is : (moment now latest : ℕ) → moment ≡ 0 → now ≡ max moment latest → now ≡ latest
+latest_is moment now latest first is = omega (arith, first, is)
+
+-- the hub was called for each record behind the plan, and this is its text
+pub lists : (known mid : Option (List ℕ)) (seen : List ℕ) (at epoch : ℕ) (p : Opened) (o : Opens seen p) (own : List ℕ) (topics : List Topic) (first hub : Hub) (text : List ℕ) → Consumes known mid seen
+    → own ≡ own_prefix epoch p.plan → topics ≡ p.plan.topics → Stands (opening p.plan (blank p.plan) 0) [] first → IfSome mid (λ tail. TakesWhole own p.feed.before (p.feed.left ++ tail) first hub)
+    → IsListing hub topics at text → IfSome known (λ input. Lists at epoch input text)
+lists known mid seen at epoch p o own topics first hub text consumed own_is topics_are stands takes text_is =
+    lifted known mid seen p o (λ n octets. TakesWhole own n octets first hub) (λ input. Lists at epoch input text) consumed takes (λ input plan_is t.
+    let start : Run = opening p.plan (blank p.plan) 0 in
+    let now : Stands start t.calls hub = t.adds start stands in
+    let kept = calls_keep own t.records t.calls start t.brings in
+    let said : text ≡ list_text (run_after start t.calls) (max at (run_after start t.calls).moment) = text_is start t.calls now (topics_are ∙ sym (ap (λ (q : PlanOf). q.topics) kept.0)) in
+    let late : (run_after start t.calls).moment ≡ latest t.records = latest_is start.moment (run_after start t.calls).moment (latest t.records) refl kept.1 in
+    record {
       plan = p.plan;
       n = o.n;
-      topic = topic;
-      state = s;
-      declares = declares;
-      admits = subst (λ (x : List ℕ). AdmitsWhole x topic.writer o.n (drop o.n input) s) own_is h;
-      text_is = text_is ∙ ap (λ (d : ℕ). list_text topic.topic (entitled d s.entries)) depth_is;
+      plan_is = plan_is;
+      records = t.records;
+      capture = t.capture;
+      run = run_after start t.calls;
+      admits = record { calls = t.calls; brings = subst (λ (x : List ℕ). BringAll x t.records t.calls) own_is t.brings; legal = now.legal; leads = refl };
+      text_is = said ∙ ap (λ (m : ℕ). list_text (run_after start t.calls) (max at m)) late;
     })
 
--- the history stops
-rest_answers : (s : Status) (epoch : ℕ) (input : List ℕ) (p : PlanOf) (n : ℕ) (topic : OneTopic) → Declares input p n topic → EndsRest s → StopsRest (own_prefix epoch p) topic.writer n (drop n input) s → ListAnswers epoch input [] s
-rest_answers (NotYet place) epoch input p n topic declares ends stops = (refl, inr (record { plan = p; n = n; topic = topic; declares = declares; stops = stops }))
-rest_answers (Input place fault) epoch input p n topic declares ends stops = (refl, ends, record { plan = p; n = n; topic = topic; declares = declares; breaks = stops })
-rest_answers OutOfMemory epoch input p n topic declares ends stops = refl
-rest_answers ReadFault epoch input p n topic declares ends stops = refl
-rest_answers Done epoch input p n topic declares ends stops = absurd ends
-rest_answers Usage epoch input p n topic declares ends stops = absurd ends
-rest_answers WriteFault epoch input p n topic declares ends stops = absurd ends
-rest_answers (Plan line kind) epoch input p n topic declares ends stops = absurd ends
+-- ---- where there is none
 
-pub rest_stops : (known mid : Option (List ℕ)) (seen : List ℕ) (epoch : ℕ) (p : Opened) (o : Opens seen p) (topic : OneTopic) (rest own : List ℕ) (before : ℕ) (s : Status) → Consumes known mid seen
-    → plan_at p.text ≡ Ok (topic, rest) → before ≡ length p.text → own ≡ own_prefix epoch p.plan → EndsRest s → IfSome mid (λ tail. StopsRest own topic.writer before (p.feed.left ++ tail) s) → IfSome known (λ input. ListAnswers epoch input [] s)
-rest_stops known mid seen epoch p o topic rest own before s consumed topic_is size own_is ends stops =
-    lifted known mid seen p o topic rest before (λ n octets. StopsRest own topic.writer n octets s) (λ input. ListAnswers epoch input [] s) consumed topic_is size stops (λ input declares h.
-    rest_answers s epoch input p.plan o.n topic declares ends (subst (λ (x : List ℕ). StopsRest x topic.writer o.n (drop o.n input) s) own_is h))
+rest_answers : (s : Status) (at epoch : ℕ) (input : List ℕ) (p : PlanOf) (n : ℕ) → PlanText input p n → EndsRecords s → StopsRest n (drop n input) s → ListAnswers at epoch input [] s
+rest_answers (Input place fault) at epoch input p n plan_is ends stops = (refl, ends, record { plan = p; n = n; plan_is = plan_is; breaks = stops })
+rest_answers OutOfMemory at epoch input p n plan_is ends stops = refl
+rest_answers ReadFault at epoch input p n plan_is ends stops = refl
+rest_answers Done at epoch input p n plan_is ends stops = absurd ends
+rest_answers Usage at epoch input p n plan_is ends stops = absurd ends
+rest_answers WriteFault at epoch input p n plan_is ends stops = absurd ends
+rest_answers (Plan line kind) at epoch input p n plan_is ends stops = absurd ends
+
+-- the records stop
+pub rest_stops : (known mid : Option (List ℕ)) (seen : List ℕ) (at epoch : ℕ) (p : Opened) (o : Opens seen p) (s : Status) → Consumes known mid seen
+    → EndsRecords s → IfSome mid (λ tail. StopsRest p.feed.before (p.feed.left ++ tail) s) → IfSome known (λ input. ListAnswers at epoch input [] s)
+rest_stops known mid seen at epoch p o s consumed ends stops =
+    lifted known mid seen p o (λ n octets. StopsRest n octets s) (λ input. ListAnswers at epoch input [] s) consumed stops (λ input plan_is h. rest_answers s at epoch input p.plan o.n plan_is ends h)
 
 -- the plan stops
-pub plan_lists : (s : Status) (epoch : ℕ) (input : List ℕ) → EndsPlan s → StopsPlan input s → ListAnswers epoch input [] s
-plan_lists OutOfMemory epoch input ends stops = refl
-plan_lists ReadFault epoch input ends stops = refl
-plan_lists (Plan line k) epoch input ends stops = (refl, stops)
-plan_lists Done epoch input ends stops = absurd ends
-plan_lists Usage epoch input ends stops = absurd ends
-plan_lists WriteFault epoch input ends stops = absurd ends
-plan_lists (Input place fault) epoch input ends stops = absurd ends
-plan_lists (NotYet place) epoch input ends stops = absurd ends
+pub plan_lists : (s : Status) (at epoch : ℕ) (input : List ℕ) → EndsPlan s → StopsPlan input s → ListAnswers at epoch input [] s
+plan_lists OutOfMemory at epoch input ends stops = refl
+plan_lists ReadFault at epoch input ends stops = refl
+plan_lists (Plan line k) at epoch input ends stops = (refl, stops)
+plan_lists Done at epoch input ends stops = absurd ends
+plan_lists Usage at epoch input ends stops = absurd ends
+plan_lists WriteFault at epoch input ends stops = absurd ends
+plan_lists (Input place fault) at epoch input ends stops = absurd ends
 
 -- ---- the statuses with which nothing was written
 
@@ -118,23 +135,20 @@ plan_unwritten Done ends = absurd ends
 plan_unwritten Usage ends = absurd ends
 plan_unwritten WriteFault ends = absurd ends
 plan_unwritten (Input place fault) ends = absurd ends
-plan_unwritten (NotYet place) ends = absurd ends
 
-pub rest_unwritten : (s : Status) → EndsRest s → EndsUnwritten s
-rest_unwritten OutOfMemory ends = tt
-rest_unwritten ReadFault ends = tt
-rest_unwritten (Input place fault) ends = ends
-rest_unwritten (NotYet place) ends = tt
-rest_unwritten Done ends = absurd ends
-rest_unwritten Usage ends = absurd ends
-rest_unwritten WriteFault ends = absurd ends
-rest_unwritten (Plan line kind) ends = absurd ends
+pub records_unwritten : (s : Status) → EndsRecords s → EndsUnwritten s
+records_unwritten OutOfMemory ends = tt
+records_unwritten ReadFault ends = tt
+records_unwritten (Input place fault) ends = ends
+records_unwritten Done ends = absurd ends
+records_unwritten Usage ends = absurd ends
+records_unwritten WriteFault ends = absurd ends
+records_unwritten (Plan line kind) ends = absurd ends
 
 pub unwritten_ends : (s : Status) → EndsUnwritten s → ListEnds s
 unwritten_ends OutOfMemory ends = tt
 unwritten_ends ReadFault ends = tt
 unwritten_ends (Input place fault) ends = ends
-unwritten_ends (NotYet place) ends = tt
 unwritten_ends (Plan line k) ends = ends
 unwritten_ends Done ends = absurd ends
 unwritten_ends Usage ends = absurd ends
@@ -146,13 +160,13 @@ not_nothing : (text : List ℕ) → 0 < length text → text ≢ []
 not_nothing text some none = absurd (omega (arith, some, ap length none))
 
 -- what was written of it
-pub text_out : (result : Result (Unit {0}) Status) (known : Option (List ℕ)) (epoch : ℕ) (text : List ℕ) (tells : Type 0) (old new : Image) → IfSome known (λ input. Lists epoch input text)
-    → (tells → OnOk result (new ≡ wrote text old)) → (tells → IsSaid text old new) → OnErr result (0 < length text) → IfErr result (λ s. s ≡ WriteFault) → IfSome known (λ input. GoesOut (ListAnswers epoch) input (status_of result) tells old new)
-text_out (Ok done) known epoch text tells old new lists all some more fault =
-    if_some known (λ input. Lists epoch input text) (λ input. GoesOut (ListAnswers epoch) input Done tells old new) (λ input l. all_out (ListAnswers epoch) input text Done tells old new l all) lists
-text_out (Err s) known epoch text tells old new lists all some more fault =
-    if_some known (λ input. Lists epoch input text) (λ input. GoesOut (ListAnswers epoch) input s tells old new) (λ input l.
-    subst (λ (x : Status). GoesOut (ListAnswers epoch) input x tells old new) (sym fault) (record {
+pub text_out : (result : Result (Unit {0}) Status) (known : Option (List ℕ)) (at epoch : ℕ) (text : List ℕ) (tells : Type 0) (old new : Image) → IfSome known (λ input. Lists at epoch input text)
+    → (tells → OnOk result (new ≡ wrote text old)) → (tells → IsSaid text old new) → OnErr result (0 < length text) → IfErr result (λ s. s ≡ WriteFault) → IfSome known (λ input. GoesOut (ListAnswers at epoch) input (status_of result) tells old new)
+text_out (Ok done) known at epoch text tells old new lists all some more fault =
+    if_some known (λ input. Lists at epoch input text) (λ input. GoesOut (ListAnswers at epoch) input Done tells old new) (λ input l. all_out (ListAnswers at epoch) input text Done tells old new l all) lists
+text_out (Err s) known at epoch text tells old new lists all some more fault =
+    if_some known (λ input. Lists at epoch input text) (λ input. GoesOut (ListAnswers at epoch) input s tells old new) (λ input l.
+    subst (λ (x : Status). GoesOut (ListAnswers at epoch) input x tells old new) (sym fault) (record {
       text = text;
       answers = (not_nothing text more, l);
       all = λ cut t. absurd cut;

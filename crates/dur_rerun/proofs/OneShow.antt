@@ -13,19 +13,19 @@ use Rattle.dur_capture.proofs.First.{within_splits, break_stuck, one_first, no_b
 use Rattle.dur_qos.specs.declared.plan.Plan.{Plan as PlanOf}
 use Rattle.dur_qos.specs.declared.fault.PlanKind.{PlanKind}
 use Rattle.dur_qos.specs.Text.{PlanText}
-use Rattle.dur_qos.proofs.Texts.{no_further}
 use Rattle.dur_qos.proofs.Verdicts.{one_plan, plan_or_fault}
 use Rattle.rtps_message.specs.declared.heard.Heard.{Heard}
 use Rattle.rtps_message.proofs.Once.{hears_once}
 use Rattle.dur_rerun.specs.declared.status.Status.{Status}
-use Rattle.dur_rerun.specs.declared.status.Status.TheVariants.{Done, Usage, OutOfMemory, Input, ReadFault, WriteFault, Plan, NotYet}
+use Rattle.dur_rerun.specs.declared.status.Status.TheVariants.{Done, Usage, OutOfMemory, Input, ReadFault, WriteFault, Plan}
 use Rattle.dur_rerun.specs.Command.{IsTold, IsFunction}
-use Rattle.dur_rerun.specs.Input.Breaks.{PlanBreaks}
+use Rattle.dur_rerun.specs.Input.Breaks.{PlanBreaks, CaptureBreaks}
 use Rattle.dur_rerun.specs.Input.Prefix.{own_prefix}
+use Rattle.dur_rerun.specs.Input.Whole.{IsWholeInput}
 use Rattle.dur_rerun.specs.Show.Answer.{ShowsBehind, ShowAnswers}
 use Rattle.dur_rerun.specs.Show.Line.{line, Shows}
 use Rattle.dur_rerun.specs.Show.Printing.{ShowsAll, ShowsRead, ShowsBreak, ShowsRest}
-use Rattle.dur_rerun.proofs.OneAnswer.{one_place, one_plan_break}
+use Rattle.dur_rerun.proofs.OneInput.{one_end, one_place, one_plan_break, whole_or_break, whole_or_plan_break}
 
 -- ---- the lines of records
 
@@ -100,9 +100,6 @@ break_or_read own before octets t e x y some =
 
 -- ---- behind the plan
 
-one_end : (input : List ℕ) (p q : PlanOf) (n m : ℕ) → PlanText input p n → PlanText input q m → n ≡ m
-one_end input p q n m a b = sym (no_further input p n a) ∙ no_further input q m b
-
 -- what is printed behind one reading of the plan is so behind the other
 moved : (epoch : ℕ) (input t : List ℕ) (s : Status) (x : ShowsBehind epoch input t s) (q : PlanOf) (m : ℕ) → PlanText input q m → ShowsRest (own_prefix epoch q) m (drop m input) t s
 moved epoch input t s x q m y =
@@ -117,7 +114,6 @@ rest_once own before octets t u Done (Input place' fault') a b h k = absurd (all
 rest_once own before octets t u Done ReadFault a b h k = absurd b
 rest_once own before octets t u Done WriteFault a b h k = absurd b
 rest_once own before octets t u Done (Plan line' kind') a b h k = absurd k
-rest_once own before octets t u Done (NotYet place') a b h k = absurd k
 rest_once own before octets t u Usage r a b h k = absurd a
 rest_once own before octets t u OutOfMemory r a b h k = absurd a
 rest_once own before octets t u (Input place fault) Done a b h k = absurd (all_or_break own before octets u t fault k h.1)
@@ -127,11 +123,9 @@ rest_once own before octets t u (Input place fault) (Input place' fault') a b h 
 rest_once own before octets t u (Input place fault) ReadFault a b h k = absurd b
 rest_once own before octets t u (Input place fault) WriteFault a b h k = absurd b
 rest_once own before octets t u (Input place fault) (Plan line' kind') a b h k = absurd k
-rest_once own before octets t u (Input place fault) (NotYet place') a b h k = absurd k
 rest_once own before octets t u ReadFault r a b h k = absurd a
 rest_once own before octets t u WriteFault r a b h k = absurd a
 rest_once own before octets t u (Plan line kind) r a b h k = absurd h
-rest_once own before octets t u (NotYet place) r a b h k = absurd h
 
 behind_once : (epoch : ℕ) (input t u : List ℕ) (s r : Status) → IsTold s → IsTold r → ShowsBehind epoch input t s → ShowsBehind epoch input u r → (t ≡ u) × (s ≡ r)
 behind_once epoch input t u s r a b h k = rest_once (own_prefix epoch k.plan) k.n (drop k.n input) t u s r a b (moved epoch input t s h k.plan k.n k.plan_is) k.rest
@@ -149,7 +143,6 @@ show_once epoch input t u Done (Input place' fault') a b h k = behind_once epoch
 show_once epoch input t u Done ReadFault a b h k = absurd b
 show_once epoch input t u Done WriteFault a b h k = absurd b
 show_once epoch input t u Done (Plan line' kind') a b h k = absurd (plan_or_behind epoch input t Done line' kind' h k.1)
-show_once epoch input t u Done (NotYet place') a b h k = behind_once epoch input t u Done (NotYet place') a b h k
 show_once epoch input t u Usage r a b h k = absurd a
 show_once epoch input t u OutOfMemory r a b h k = absurd a
 show_once epoch input t u (Input place fault) Done a b h k = behind_once epoch input t u (Input place fault) Done a b h k
@@ -159,7 +152,6 @@ show_once epoch input t u (Input place fault) (Input place' fault') a b h k = be
 show_once epoch input t u (Input place fault) ReadFault a b h k = absurd b
 show_once epoch input t u (Input place fault) WriteFault a b h k = absurd b
 show_once epoch input t u (Input place fault) (Plan line' kind') a b h k = absurd (plan_or_behind epoch input t (Input place fault) line' kind' h k.1)
-show_once epoch input t u (Input place fault) (NotYet place') a b h k = behind_once epoch input t u (Input place fault) (NotYet place') a b h k
 show_once epoch input t u ReadFault r a b h k = absurd a
 show_once epoch input t u WriteFault r a b h k = absurd a
 show_once epoch input t u (Plan line kind) Done a b h k = absurd (plan_or_behind epoch input u Done line kind k h.1)
@@ -169,15 +161,6 @@ show_once epoch input t u (Plan line kind) (Input place' fault') a b h k = absur
 show_once epoch input t u (Plan line kind) ReadFault a b h k = absurd b
 show_once epoch input t u (Plan line kind) WriteFault a b h k = absurd b
 show_once epoch input t u (Plan line kind) (Plan line' kind') a b h k = (h.0 ∙ sym k.0, one_plan_break input line line' kind kind' h.1 k.1)
-show_once epoch input t u (Plan line kind) (NotYet place') a b h k = absurd (plan_or_behind epoch input u (NotYet place') line kind k h.1)
-show_once epoch input t u (NotYet place) Done a b h k = behind_once epoch input t u (NotYet place) Done a b h k
-show_once epoch input t u (NotYet place) Usage a b h k = absurd b
-show_once epoch input t u (NotYet place) OutOfMemory a b h k = absurd b
-show_once epoch input t u (NotYet place) (Input place' fault') a b h k = behind_once epoch input t u (NotYet place) (Input place' fault') a b h k
-show_once epoch input t u (NotYet place) ReadFault a b h k = absurd b
-show_once epoch input t u (NotYet place) WriteFault a b h k = absurd b
-show_once epoch input t u (NotYet place) (Plan line' kind') a b h k = absurd (plan_or_behind epoch input t (NotYet place) line' kind' h k.1)
-show_once epoch input t u (NotYet place) (NotYet place') a b h k = behind_once epoch input t u (NotYet place) (NotYet place') a b h k
 
 rest_writes : (own : List ℕ) (before : ℕ) (octets t : List ℕ) (s : Status) → IsTold s → ShowsRest own before octets t WriteFault → ShowsRest own before octets [] s → ⊥
 rest_writes own before octets t Done a h k = all_or_read own before octets t k h.1 h.0
@@ -187,7 +170,6 @@ rest_writes own before octets t (Input place fault) a h k = break_or_read own be
 rest_writes own before octets t ReadFault a h k = absurd a
 rest_writes own before octets t WriteFault a h k = absurd a
 rest_writes own before octets t (Plan line kind) a h k = k
-rest_writes own before octets t (NotYet place) a h k = k
 
 behind_writes : (epoch : ℕ) (input t : List ℕ) (s : Status) → IsTold s → ShowsBehind epoch input t WriteFault → ShowsBehind epoch input [] s → ⊥
 behind_writes epoch input t s a h k = rest_writes (own_prefix epoch k.plan) k.n (drop k.n input) t s a (moved epoch input t WriteFault h k.plan k.n k.plan_is) k.rest
@@ -200,7 +182,18 @@ show_writes epoch input t (Input place fault) a h k = behind_writes epoch input 
 show_writes epoch input t ReadFault a h k = absurd a
 show_writes epoch input t WriteFault a h k = absurd a
 show_writes epoch input t (Plan line kind) a h k = plan_or_behind epoch input t WriteFault line kind h k.1
-show_writes epoch input t (NotYet place) a h k = behind_writes epoch input t (NotYet place) a h k
+
+show_break : (epoch : ℕ) (input t : List ℕ) (place : ℕ) (e : CapFault) → ShowsBehind epoch input t (Input place e) → CaptureBreaks input e
+show_break epoch input t place e h = record { plan = h.plan; n = h.n; plan_is = h.plan_is; breaks = break_at (own_prefix epoch h.plan) h.n (drop h.n input) t e h.rest.1 }
+
+show_whole : (epoch : ℕ) (input t : List ℕ) (s : Status) → IsWholeInput input → IsTold s → ShowAnswers epoch input t s → s ≡ Done
+show_whole epoch input t Done w a h = refl
+show_whole epoch input t Usage w a h = absurd a
+show_whole epoch input t OutOfMemory w a h = absurd a
+show_whole epoch input t (Input place fault) w a h = absurd (whole_or_break input fault w (show_break epoch input t place fault h))
+show_whole epoch input t ReadFault w a h = absurd a
+show_whole epoch input t WriteFault w a h = absurd a
+show_whole epoch input t (Plan line kind) w a h = absurd (whole_or_plan_break input line kind w h.1)
 
 pub show_function : (epoch : ℕ) → IsFunction (ShowAnswers epoch)
-show_function epoch = record { once = show_once epoch; writes = show_writes epoch; words = λ input t h. h.rest }
+show_function epoch = record { once = show_once epoch; whole = show_whole epoch; writes = show_writes epoch; words = λ input t h. h.rest }

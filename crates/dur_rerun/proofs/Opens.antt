@@ -11,12 +11,11 @@ use Rattle.dur_qos.specs.Text.{PlanText, IsFault}
 use Rattle.dur_qos.proofs.Runs.{after_append, taken_append}
 use Rattle.dur_qos.proofs.Texts.{no_further}
 use Rattle.dur_qos.proofs.Verdicts.{ended_plan, push_says, finish_says}
-use Rattle.bytes.proofs.Ranges.{take-append_past}
 use Rattle.dur_rerun.specs.declared.input.plan.Opened.{Opened}
 use Rattle.dur_rerun.specs.declared.status.Status.{Status}
 use Rattle.dur_rerun.specs.declared.status.Status.TheVariants.{OutOfMemory}
 use Rattle.dur_rerun.specs.Input.Breaks.{line_status, plan_status, PlanBreaks, EndsPlan, StopsPlan}
-use Rattle.dur_rerun.specs.Input.Plan.{Begins, Opens, EndsReading}
+use Rattle.dur_rerun.specs.Input.Plan.{begun, Opens, EndsReading}
 use Rattle.dur_rerun.proofs.Commands.{if_any}
 use Rattle.dur_rerun.proofs.Rest.{told, none_left}
 
@@ -34,10 +33,10 @@ drop_past (x ∷ xs) ys n =
     ap (λ (m : ℕ). drop m (x ∷ (xs ++ ys))) one ∙ drop_past xs ys n
 
 -- a reading that has ended behind these octets, of which it took so many of the last piece
-pub opens_inside : (seen piece text : List ℕ) (r g : Reading) (n before at : ℕ) (o : Opened)
+pub opens_inside : (seen piece : List ℕ) (r g : Reading) (n before at : ℕ) (o : Opened)
     → r ≡ after start seen → before ≡ length seen → taken start seen ≡ length seen → g ≡ after r piece → n ≡ taken r piece → at ≡ before + n
-    → (g.fault ≡ None) × (g.ended ≡ true) → g.plan ≡ Some o.plan → text ≡ seen → Begins (text ++ take n piece) at (drop n piece) o → at ≤ 2 ^ 40 → Opens (seen ++ piece) o
-opens_inside seen piece text r g n before at o reads size all step count at_is ended plan_is text_is begins within =
+    → (g.fault ≡ None) × (g.ended ≡ true) → g.plan ≡ Some o.plan → o.feed ≡ begun at (drop n piece) → at ≤ 2 ^ 40 → Opens (seen ++ piece) o
+opens_inside seen piece r g n before at o reads size all step count at_is ended plan_is feed within =
     let whole : g ≡ after start (seen ++ piece) = step ∙ ap (λ (x : Reading). after x piece) reads ∙ sym (after_append start seen piece) in
     let t = ended_plan (seen ++ piece) o.plan (ap (λ (x : Reading). x.fault) (sym whole) ∙ ended.0) (ap (λ (x : Reading). x.ended) (sym whole) ∙ ended.1) (ap (λ (x : Reading). x.plan) (sym whole) ∙ plan_is) in
     let m : ℕ = t.0 in
@@ -46,21 +45,20 @@ opens_inside seen piece text r g n before at o reads size all step count at_is e
     let place : at ≡ m = omega (arith, no_further (seen ++ piece) o.plan m text_to, taken_append start seen piece, same, all, size, count, at_is) in
     let where_is : length seen + n ≡ at = omega (arith, at_is, size) in
     let dropped : drop n piece ≡ drop at (seen ++ piece) = sym (drop_past seen piece n) ∙ ap (λ (k : ℕ). drop k (seen ++ piece)) where_is in
-    let front : seen ++ take n piece ≡ take at (seen ++ piece) = sym (take-append_past seen piece n at (sym where_is)) in
     record {
       n = at;
       plan_is = subst (PlanText (seen ++ piece) o.plan) (sym place) text_to;
-      begins = record { text_is = begins.text_is ∙ ap (λ (t : List ℕ). t ++ take n piece) text_is ∙ front; feed_is = begins.feed_is ∙ ap (λ (l : List ℕ). record { before = at; taken = 0; left = l; fault = None }) dropped };
+      feed_is = feed ∙ ap (begun at) dropped;
       within = within;
     }
 
 -- a reading that has ended at the end of the input
-pub opens_last : (seen text : List ℕ) (r : Reading) (before : ℕ) (o : Opened)
+pub opens_last : (seen : List ℕ) (r : Reading) (before : ℕ) (o : Opened)
     → r ≡ after start seen → before ≡ length seen → taken start seen ≡ length seen
-    → (r.fault ≡ None) × (r.ended ≡ true) → r.plan ≡ Some o.plan → text ≡ seen → Begins (text ++ []) (before + 0) [] o → before ≤ 2 ^ 40 → Opens seen o
-opens_last seen text r before o reads size all ended plan_is text_is begins within =
+    → (r.fault ≡ None) × (r.ended ≡ true) → r.plan ≡ Some o.plan → o.feed ≡ begun (before + 0) [] → before ≤ 2 ^ 40 → Opens seen o
+opens_last seen r before o reads size all ended plan_is feed within =
     subst (λ (l : List ℕ). Opens l o) (append-nil seen)
-    (opens_inside seen [] text r r 0 before (before + 0) o reads size all refl refl refl ended plan_is text_is begins (omega (arith, within)))
+    (opens_inside seen [] r r 0 before (before + 0) o reads size all refl refl refl ended plan_is feed (omega (arith, within)))
 
 -- a piece more, all of which was taken
 pub piece_taken : (seen piece : List ℕ) (r : Reading) (n count : ℕ) → r ≡ after start seen → taken start seen ≡ length seen → n ≡ taken r piece → length piece ≡ count → count ≤ n
@@ -126,15 +124,12 @@ memory_told known s is = if_any known (λ bytes. StopsPlan bytes s) (λ bytes. s
 pub sized : (seen piece : List ℕ) (before count : ℕ) → before ≡ length seen → length piece ≡ count → before + count ≡ length (seen ++ piece)
 sized seen piece before count size len = omega (arith, size, len, length-append seen piece)
 
-pub text_more : (seen old new piece : List ℕ) → old ≡ seen → new ≡ old ++ piece → new ≡ seen ++ piece
-text_more seen old new piece is step = step ∙ ap (λ (l : List ℕ). l ++ piece) is
-
 -- what a reading that ended with the input makes
-pub opened_last : (result : Result Opened Status) (known now : Option (List ℕ)) (seen text : List ℕ) (r : Reading) (before : ℕ) → r ≡ after start seen → before ≡ length seen → taken start seen ≡ length seen
-    → OnOk result ((r.fault ≡ None) × (r.ended ≡ true)) → IfOk result (λ o. (r.plan ≡ Some o.plan) × Begins (text ++ []) (before + 0) [] o) → text ≡ seen → Consumes known now seen → before ≤ 2 ^ 40
+pub opened_last : (result : Result Opened Status) (known now : Option (List ℕ)) (seen : List ℕ) (r : Reading) (before : ℕ) → r ≡ after start seen → before ≡ length seen → taken start seen ≡ length seen
+    → OnOk result ((r.fault ≡ None) × (r.ended ≡ true)) → IfOk result (λ o. (r.plan ≡ Some o.plan) × (o.feed ≡ begun (before + 0) [])) → Consumes known now seen → before ≤ 2 ^ 40
     → IfOk result (λ o. (x : List ℕ) × Consumes known now x × Opens x o)
-opened_last (Ok o) known now seen text r before reads size all ended ok is consumed within = (seen, consumed, opens_last seen text r before o reads size all ended ok.0 is ok.1 within)
-opened_last (Err s) known now seen text r before reads size all ended ok is consumed within = tt
+opened_last (Ok o) known now seen r before reads size all ended ok consumed within = (seen, consumed, opens_last seen r before o reads size all ended ok.0 ok.1 within)
+opened_last (Err s) known now seen r before reads size all ended ok consumed within = tt
 
 -- where it made none
 pub ended_last : (result : Result Opened Status) (known now : Option (List ℕ)) (seen : List ℕ) (r : Reading) → Consumes known now seen → IsAtEnd now → r ≡ after start seen → IfErr result (λ s. EndsReading r s) → IfErr result (λ s. IfSome known (λ bytes. StopsPlan bytes s))

@@ -14,7 +14,7 @@ use Rattle.rtps_message.specs.declared.heard.Heard.{Heard}
 use Rattle.rtps_message.specs.Messages.{Hears}
 use Rattle.dur_rerun.specs.declared.show.printer.Printer.{Printer}
 use Rattle.dur_rerun.specs.declared.status.Status.{Status}
-use Rattle.dur_rerun.specs.declared.status.Status.TheVariants.{Done, Usage, OutOfMemory, Input, ReadFault, WriteFault, Plan, NotYet}
+use Rattle.dur_rerun.specs.declared.status.Status.TheVariants.{Done, Usage, OutOfMemory, Input, ReadFault, WriteFault, Plan}
 use Rattle.dur_rerun.specs.Command.{GoesOut}
 use Rattle.dur_rerun.specs.Saying.{IsSaid, wrote}
 use Rattle.dur_rerun.specs.Input.Breaks.{capture_status, EndsRefill}
@@ -271,7 +271,6 @@ stopped Usage own before octets sent held tells first old new h ends written sai
 stopped ReadFault own before octets sent held tells first old new h ends written said = absurd ends
 stopped WriteFault own before octets sent held tells first old new h ends written said = absurd ends
 stopped (Plan line kind) own before octets sent held tells first old new h ends written said = absurd ends
-stopped (NotYet place) own before octets sent held tells first old new h ends written said = absurd ends
 
 -- with octets that follow, at the end of which it breaks off as well
 breaks_more : (s : Status) (f : Feeding) (more : List ℕ) → BreaksBy f false s → BreaksBy (given more f) true s
@@ -282,7 +281,6 @@ breaks_more Usage f more b = absurd b
 breaks_more ReadFault f more b = absurd b
 breaks_more WriteFault f more b = absurd b
 breaks_more (Plan line kind) f more b = absurd b
-breaks_more (NotYet place) f more b = absurd b
 
 up_to_more : (s : Status) (own : List ℕ) (before : ℕ) (octets more sent held : List ℕ) → HoldsUpTo own before octets sent false s held → HoldsUpTo own before (octets ++ more) sent true s held
 up_to_more s own before octets more sent held h = record {
@@ -321,7 +319,6 @@ refill_answer Usage own before octets text ends r = absurd ends
 refill_answer WriteFault own before octets text ends r = absurd ends
 refill_answer (Input place fault) own before octets text ends r = absurd ends
 refill_answer (Plan line kind) own before octets text ends r = absurd ends
-refill_answer (NotYet place) own before octets text ends r = absurd ends
 
 pub out_read : (known mid : Option (List ℕ)) (s : Status) (own : List ℕ) (before : ℕ) (octets seen sent held : List ℕ) (tells : Type 0) (first old new : Image) → Consumes known mid seen → TextRead own before (octets ++ seen) sent held → EndsRefill s
     → (tells → old ≡ wrote sent first) → (tells → new ≡ wrote held old) → IfSome known (λ tail. GoesOut (ShowsRest own before) (octets ++ tail) s tells first new)

@@ -11,7 +11,7 @@ use Rattle.dur_qos.specs.Text.{PlanText, line_text}
 use Rattle.dur_rerun.specs.declared.input.plan.Opened.{Opened}
 use Rattle.dur_rerun.specs.declared.show.printer.Printer.{Printer}
 use Rattle.dur_rerun.specs.declared.status.Status.{Status}
-use Rattle.dur_rerun.specs.declared.status.Status.TheVariants.{Done, Usage, OutOfMemory, Input, ReadFault, WriteFault, Plan, NotYet}
+use Rattle.dur_rerun.specs.declared.status.Status.TheVariants.{Done, Usage, OutOfMemory, Input, ReadFault, WriteFault, Plan}
 use Rattle.dur_rerun.specs.Command.{GoesOut}
 use Rattle.dur_rerun.specs.Input.Breaks.{EndsPlan, StopsPlan}
 use Rattle.dur_rerun.specs.Input.Plan.{Opens}
@@ -58,11 +58,10 @@ shows_behind (Input place fault) epoch input text h = h
 shows_behind ReadFault epoch input text h = inr h
 shows_behind WriteFault epoch input text h = h
 shows_behind (Plan line k) epoch input text h = absurd h.rest
-shows_behind (NotYet place) epoch input text h = h
 
 pub fresh_behind : (seen : List ℕ) (p : Opened) (o : Opens seen p) (q : Printer) → q.feed ≡ p.feed → (q.count ≡ 0) × (q.held.items ≡ []) → IsFresh q
 fresh_behind seen p o q feed none =
-    let is = feed ∙ o.begins.feed_is in
+    let is = feed ∙ o.feed_is in
     let before : q.feed.before ≡ o.n = ap (λ (f : Feeding). f.before) is in
     record {
       count = none.0;
@@ -77,7 +76,7 @@ pub rest_out : (known mid : Option (List ℕ)) (seen : List ℕ) (epoch : ℕ) (
     → IfSome mid (λ tail. GoesOut (ShowsRest q.own q.feed.before) (q.feed.left ++ tail) s tells old new) → IfSome known (λ input. GoesOut (ShowAnswers epoch) input s tells old new)
 rest_out known mid seen epoch p o q s tells old new consumed own_is feed out =
     behind known mid seen (λ input. GoesOut (ShowAnswers epoch) input s tells old new) (λ tail. GoesOut (ShowsRest q.own q.feed.before) (q.feed.left ++ tail) s tells old new) consumed out (λ tail g.
-    let is = feed ∙ o.begins.feed_is in
+    let is = feed ∙ o.feed_is in
     let octets : q.feed.left ++ tail ≡ drop o.n (seen ++ tail) = ap (λ (f : Feeding). f.left ++ tail) is ∙ behind_plan seen tail p.plan o.n o.plan_is in
     record {
       text = g.text;
@@ -103,7 +102,6 @@ plan_shows Done epoch input ends stops = absurd ends
 plan_shows Usage epoch input ends stops = absurd ends
 plan_shows WriteFault epoch input ends stops = absurd ends
 plan_shows (Input place fault) epoch input ends stops = absurd ends
-plan_shows (NotYet place) epoch input ends stops = absurd ends
 
 pub plan_show_ends : (s : Status) → EndsPlan s → ShowEnds s
 plan_show_ends OutOfMemory ends = tt
@@ -113,7 +111,6 @@ plan_show_ends Done ends = absurd ends
 plan_show_ends Usage ends = absurd ends
 plan_show_ends WriteFault ends = absurd ends
 plan_show_ends (Input place fault) ends = absurd ends
-plan_show_ends (NotYet place) ends = absurd ends
 
 pub rest_show_ends : (s : Status) → EndsRest s → ShowEnds s
 rest_show_ends Done ends = tt
@@ -123,4 +120,3 @@ rest_show_ends WriteFault ends = tt
 rest_show_ends (Input place fault) ends = ends
 rest_show_ends Usage ends = absurd ends
 rest_show_ends (Plan line k) ends = absurd ends
-rest_show_ends (NotYet place) ends = absurd ends

@@ -6,7 +6,8 @@ use Rattle.std.specs.Io.KnownBytes.{IsAtEnd}
 use Rattle.dur_outside.specs.World.{Image}
 use Rattle.dur_outside.specs.Causes.{Rose}
 use Rattle.dur_rerun.specs.declared.status.Status.{Status}
-use Rattle.dur_rerun.specs.declared.status.Status.TheVariants.{Done, Usage, OutOfMemory, Input, ReadFault, WriteFault, Plan, NotYet}
+use Rattle.dur_rerun.specs.declared.status.Status.TheVariants.{Done, Usage, OutOfMemory, Input, ReadFault, WriteFault, Plan}
+use Rattle.dur_rerun.specs.Input.Whole.{IsWholeInput}
 use Rattle.dur_rerun.specs.Saying.{IsSaid, wrote}
 
 -- What a command answers: an input, the text for it, and the status. Where a fault of the source or of the sink or want
@@ -19,7 +20,6 @@ abbrev pub IsTold : Status → Type 0
 IsTold Done = Unit {0}
 IsTold (Input place fault) = Unit {0}
 IsTold (Plan line kind) = Unit {0}
-IsTold (NotYet place) = Unit {0}
 IsTold Usage = ⊥
 IsTold OutOfMemory = ⊥
 IsTold ReadFault = ⊥
@@ -34,6 +34,8 @@ status_of (Err status) = status
 pub record IsFunction (answers : List ℕ → List ℕ → Status → Type 0) : Type 0 where
   -- one text and one status that says what it calls for
   pub once : (input t u : List ℕ) (s r : Status) → IsTold s → IsTold r → answers input t s → answers input u r → (t ≡ u) × (s ≡ r)
+  -- that of a whole input is the status 0
+  pub whole : (input t : List ℕ) (s : Status) → IsWholeInput input → IsTold s → answers input t s → s ≡ Done
   -- a write fails only where there is something to write
   pub writes : (input t : List ℕ) (s : Status) → IsTold s → answers input t WriteFault → answers input [] s → ⊥
   -- a command line is read before any command
@@ -54,6 +56,8 @@ pub record HasReason (Ends : Status → Type 0) (s : Status) (left : Option (Lis
 pub record Arrives (gives : List ℕ → List ℕ → Status → Type 0) (input : List ℕ) (s : Status) (reads reads_now writes writes_now : ℕ) : Type 0 where
   -- no read and no write failed
   pub answer : (text : List ℕ) (a : Status) → IsTold a → gives input text a → (Rose reads reads_now → ⊥) → (Rose writes writes_now → ⊥) → (s ≡ a) ⊎ (s ≡ OutOfMemory)
+  -- the same, and the input is the text of a plan and a capture
+  pub whole : IsWholeInput input → (Rose reads reads_now → ⊥) → (Rose writes writes_now → ⊥) → (s ≡ Done) ⊎ (s ≡ OutOfMemory)
   -- no read failed, and there is nothing to write
   pub silent : (a : Status) → IsTold a → gives input [] a → (Rose reads reads_now → ⊥) → (s ≡ a) ⊎ (s ≡ OutOfMemory)
 

@@ -1,3 +1,4 @@
+pub mod Admission
 pub mod Command
 pub mod Input
 pub mod List

@@ -1,6 +1,4 @@
-pub mod Admission
 pub mod Answer
 pub mod History
-pub mod Kept
 pub mod Line
-pub mod OneTopic
+pub mod Listing

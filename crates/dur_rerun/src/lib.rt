@@ -2,6 +2,7 @@
 //! record of a capture tells; and `list`, which prints what a capture's history entitles a late reader to.
 #![tactic(auto)]
 
+mod admit;
 mod input;
 pub mod list;
 mod output;

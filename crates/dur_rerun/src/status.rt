@@ -27,8 +27,6 @@ pub enum Status {
     /// The plan's text first breaks in the line with this number, from 1, with this fault, which is never
     /// `OutOfMemory`.
     Plan(u32, PlanKind),
-    /// The line or record that begins at that octet of the input is of a form that is not built yet.
-    NotYet(u64),
 }
 
 impl From<OutOfMemory> for Status {

@@ -1,6 +1,6 @@
 //! Records with a whole message, a faulty one and one that is too short.
 
-use crate::list::{breaks_are_first_breaks, list};
+use crate::list::list;
 use crate::show::show;
 use crate::{Status, list as listing, show as showing};
 use dur_base::{List, Octets, Ticks};
@@ -86,5 +86,4 @@ fn a_written_sample_is_listed(rt: HostRuntime) {
     );
     listing::one_answer();
     showing::one_answer();
-    breaks_are_first_breaks();
 }

@@ -32,7 +32,7 @@ IsLine words (line.Show epoch) = IsShow words epoch
 
 -- what it answers
 abbrev pub answers_of : Line → List ℕ → List ℕ → Status → Type 0
-answers_of (line.List at epoch) = ListAnswers epoch
+answers_of (line.List at epoch) = ListAnswers at epoch
 answers_of (line.Show epoch) = ShowAnswers epoch
 
 -- the statuses with which it ends

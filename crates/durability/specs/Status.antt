@@ -2,7 +2,7 @@
 use Rattle.std.specs.Prelude.{ℕ, List, [], ◌++◌, codes}
 use Rattle.std.specs.Fmt.{decimal}
 use Rattle.dur_rerun.specs.declared.status.Status.{Status}
-use Rattle.dur_rerun.specs.declared.status.Status.TheVariants.{Done, Usage, OutOfMemory, Input, ReadFault, WriteFault, Plan, NotYet}
+use Rattle.dur_rerun.specs.declared.status.Status.TheVariants.{Done, Usage, OutOfMemory, Input, ReadFault, WriteFault, Plan}
 use Rattle.dur_capture.specs.declared.fault.CapFault.{CapFault}
 use Rattle.dur_capture.specs.declared.fault.CapFault.TheVariants as cap
 use Rattle.dur_qos.specs.declared.fault.PlanKind.{PlanKind}
@@ -16,10 +16,6 @@ number_of (Input place fault) = 4
 number_of ReadFault = 5
 number_of WriteFault = 6
 number_of (Plan line kind) = 8
-number_of (NotYet place) = 14
-
-abbrev pub not_yet_line : ℕ → List ℕ
-not_yet_line place = codes "durability: not yet " ++ decimal place ++ codes "\n"
 
 abbrev pub fault_name : CapFault → List ℕ
 fault_name (cap.LongDatagram place) = codes "LongDatagram"
@@ -51,4 +47,3 @@ fault_line ReadFault = codes "durability: read fault\n"
 fault_line WriteFault = codes "durability: write fault\n"
 fault_line (Input place fault) = input_line place fault
 fault_line (Plan line kind) = plan_line line kind
-fault_line (NotYet place) = not_yet_line place

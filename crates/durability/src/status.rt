@@ -2,7 +2,7 @@
 
 ghost use Rattle.std.specs.Prelude.{◌≡◌, ◌+◌, ◌++◌, ◌≤◌, length};
 ghost use Rattle.dur_outside.specs.Causes.{Rose};
-ghost use Rattle.durability.specs.Status.{number_of, fault_line, not_yet_line, input_line, plan_line, fault_name, plan_name};
+ghost use Rattle.durability.specs.Status.{number_of, fault_line, input_line, plan_line, fault_name, plan_name};
 ghost use Rattle.dur_rerun.specs.Saying.{IsSaid, wrote};
 
 use arrayvec::ArrayVec;
@@ -24,7 +24,6 @@ pub fn number(status: Status) -> u8
         Status::ReadFault => 5,
         Status::WriteFault => 6,
         Status::Plan(_, _) => 8,
-        Status::NotYet(_) => 14,
     }
 }
 
@@ -34,17 +33,6 @@ fn put(line: &mut ArrayVec<u8, 64>, piece: &[u8])
     ensures { line.new.items ≡ line.old.items ++ piece.now }
 {
     let _ = line.try_extend_from_slice(piece);
-}
-
-fn not_yet(place: u64) -> ArrayVec<u8, 64>
-    ensures { result.items ≡ not_yet_line place }
-{
-    let mut line = ArrayVec::new();
-    let mut digits = Buffer::new();
-    put(&mut line, b"durability: not yet ");
-    put(&mut line, digits.format(place).as_bytes());
-    put(&mut line, b"\n");
-    line
 }
 
 /// The name of a fault of the capture.
@@ -126,6 +114,5 @@ pub fn say_fault<E: Sink>(err: &mut E, status: Status)
         Status::WriteFault => say_line(err, b"durability: write fault\n"),
         Status::Input(place, fault) => say_line(err, &input_fault(place, fault)),
         Status::Plan(line, kind) => say_line(err, &plan_fault(line, kind)),
-        Status::NotYet(place) => say_line(err, &not_yet(place)),
     }
 }

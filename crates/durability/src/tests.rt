@@ -1,4 +1,6 @@
-//! The rows of the first path, and each of its objects failing.
+//! Command lines, what breaks an input, and each of a run's objects failing.
+
+mod rows;
 
 use crate::run::durability;
 use crate::status::number;
@@ -100,35 +102,15 @@ fn the_newest_of_a_key_is_listed(rt: HostRuntime) {
     let alloc = rt.alloc();
     let done = run(alloc, "list", FIRST, SECOND, none(alloc));
     assert!(rt; gives(&done, Status::Done, LINE, b""));
-    let done = run(alloc, "list", b"", b"", none(alloc));
+    let done = run(alloc, "list", SHORT, b"", none(alloc));
     assert!(rt; gives(&done, Status::Done, b"", b""));
+    list::one_answer();
+    show::one_answer();
 }
 
 #[test]
-fn other_forms_and_words_are_named(rt: HostRuntime) {
+fn other_words_are_refused(rt: HostRuntime) {
     let alloc = rt.alloc();
-    let done = run(alloc, "list", SHORT, b"", none(alloc));
-    assert!(rt;
-        gives(
-            &done,
-            Status::NotYet(107),
-            b"",
-            b"durability: not yet 107\n"
-        )
-    );
-    assert!(rt; number(done.status) == 14);
-    let done = run(alloc, "list", FIRST, FIRST, none(alloc));
-    assert!(rt;
-        gives(
-            &done,
-            Status::NotYet(197),
-            b"",
-            b"durability: not yet 197\n"
-        )
-    );
-    list::one_answer();
-    list::breaks_are_first_breaks();
-    show::one_answer();
     let done = run(alloc, "lists", FIRST, b"", none(alloc));
     assert!(rt; gives(&done, Status::Usage, b"", b"durability: usage\n"));
 }
@@ -176,17 +158,8 @@ const BEAT: &[u8] = b"\x05\x00\x00\x00\x00\x00\x00\x00\x00\x00\x34\x00\x00\x00RT
 \x00\x00\x00\x00\x01\x00\x00\x00\x00\x00\x00\x00\x00\x00\x00\x00\x01\x00\x00\x00";
 
 #[test]
-fn records_are_listed_up_to_another_form(rt: HostRuntime) {
+fn nothing_is_listed_where_the_capture_breaks(rt: HostRuntime) {
     let alloc = rt.alloc();
-    let done = run(alloc, "list", BEAT, b"", none(alloc));
-    assert!(rt;
-        gives(
-            &done,
-            Status::NotYet(107),
-            b"",
-            b"durability: not yet 107\n"
-        )
-    );
     let done = run(alloc, "list", FIRST, b"\x00\x00\x00\x00\x00", none(alloc));
     assert!(rt;
         gives(
@@ -268,8 +241,8 @@ fn a_plan_is_told_where_it_breaks(rt: HostRuntime) {
     assert!(rt; over_plan(alloc, "show", TOPIC, OTHER) == Status::Plan(3, PlanKind::UnknownTopic));
     assert!(rt; over_plan(alloc, "show", TOPIC, WRITER) == Status::Plan(4, PlanKind::Word));
     assert!(rt; over_plan(alloc, "list", TOPIC, WRITER) == Status::Plan(4, PlanKind::Word));
-    let persistent = b"topic T persistent hash 1 - - - - 0\nend\n";
-    assert!(rt; over_plan(alloc, "list", persistent, b"") == Status::NotYet(24));
+    let reader = b"reader b2b2b2b2b2b2b2b2b2b2b2b200000107 T transient\nend\n";
+    assert!(rt; over_plan(alloc, "list", TOPIC, reader) == Status::Done);
 }
 
 #[test]
@@ -301,17 +274,10 @@ fn a_failing_err_changes_no_status(rt: HostRuntime) {
     let alloc = rt.alloc();
     let mut fails = none(alloc);
     fails.err = call(alloc, 0);
-    let done = run(alloc, "list", SHORT, b"", fails);
-    assert!(rt; gives(&done, Status::NotYet(107), b"", b""));
+    let done = run(alloc, "lists", FIRST, b"", fails);
+    assert!(rt; gives(&done, Status::Usage, b"", b""));
     let mut fails = none(alloc);
     fails.err = call(alloc, 1);
-    let done = run(alloc, "list", SHORT, b"", fails);
-    assert!(rt;
-        gives(
-            &done,
-            Status::NotYet(107),
-            b"",
-            b"durability: not yet 107\n"
-        )
-    );
+    let done = run(alloc, "lists", FIRST, b"", fails);
+    assert!(rt; gives(&done, Status::Usage, b"", b"durability: usage\n"));
 }

@@ -1,5 +1,6 @@
 -- The plan in front of a capture, and what came behind it.
-use Rattle.std.specs.Prelude.{◌≡◌, ℕ, ◌≤◌, ◌^◌, ◌⊎◌, List, take, drop, false, Some, None}
+use Rattle.std.specs.Prelude.{◌≡◌, ℕ, ◌≤◌, ◌^◌, ◌⊎◌, List, drop, false, Some, None}
+use Rattle.dur_capture.specs.Feeding.{Feeding}
 use Rattle.dur_qos.specs.declared.fault.PlanKind.TheVariants.{Word}
 use Rattle.dur_qos.specs.declared.fault.PlanFault.{PlanFault}
 use Rattle.dur_qos.specs.Reading.{Reading}
@@ -9,16 +10,15 @@ use Rattle.dur_rerun.specs.declared.status.Status.{Status}
 use Rattle.dur_rerun.specs.declared.status.Status.TheVariants.{OutOfMemory}
 use Rattle.dur_rerun.specs.Input.Breaks.{plan_status}
 
--- this is its text, of so many octets, and these octets came behind it
-pub record Begins (text : List ℕ) (before : ℕ) (octets : List ℕ) (o : Opened) : Type 0 where
-  pub text_is : o.text ≡ text
-  pub feed_is : o.feed ≡ record { before = before; taken = 0; left = octets; fault = None }
+-- a feed of these octets, of which none was handed out, behind so many octets of input
+abbrev pub begun : ℕ → List ℕ → Feeding
+begun before octets = record { before = before; taken = 0; left = octets; fault = None }
 
 -- the octets seen are the text of a plan, and what follows it is left
 pub record Opens (seen : List ℕ) (o : Opened) : Type 0 where
   pub n : ℕ
   pub plan_is : PlanText seen o.plan n
-  pub begins : Begins (take n seen) n (drop n seen) o
+  pub feed_is : o.feed ≡ begun n (drop n seen)
   pub within : n ≤ 2 ^ 40
 
 -- a reading of a plan was told this fault, or ends in the line that has begun

@@ -1,12 +1,12 @@
-//! What `list` prints: a line for each entitled change.
+//! What `list` prints of a topic: a line for each entitled change.
 
-ghost use Rattle.std.specs.Prelude.{◌≡◌, ◌∷◌, ◌++◌, [], IfOk, OnOk};
+ghost use Rattle.std.specs.Prelude.{◌≡◌, ◌∷◌, ◌++◌, [], OnOk};
 ghost use Rattle.hex.specs.Hex.{encode_lower};
-ghost use Rattle.dur_rerun.specs.List.Line.{payload_text, list_line, list_text};
+ghost use Rattle.dur_rerun.specs.List.Line.{act_text, payload_text, list_line, topic_text};
 
 use crate::text::{append, append_number};
-use dur_base::OutOfMemory;
-use dur_topic::Change;
+use dur_base::{Act, OutOfMemory};
+use dur_view::Change;
 use std::alloc::Global;
 
 fn append_hex(alloc: Global, out: &mut Vec<u8>, octets: &[u8]) -> Result<(), OutOfMemory>
@@ -14,6 +14,17 @@ fn append_hex(alloc: Global, out: &mut Vec<u8>, octets: &[u8]) -> Result<(), Out
 {
     let text = hex::encode(alloc, octets)?;
     append(out, text.as_bytes())
+}
+
+fn append_act(out: &mut Vec<u8>, act: Act) -> Result<(), OutOfMemory>
+    ensures { OnOk result (out.new.items ≡ out.old.items ++ act_text act) }
+{
+    match act {
+        Act::Write => append(out, b" write "),
+        Act::Dispose | Act::Unregister | Act::DisposeUnregister | Act::Marker => {
+            append(out, b" dispose ")
+        }
+    }
 }
 
 fn append_payload(alloc: Global, out: &mut Vec<u8>, octets: &[u8]) -> Result<(), OutOfMemory>
@@ -41,22 +52,26 @@ fn append_change(
     append_number(out, change.number.get())?;
     append(out, b" ")?;
     append_hex(alloc, out, &change.sample.key.0)?;
-    append(out, b" write ")?;
+    append_act(out, change.sample.act)?;
     append_number(out, change.sample.stamp.0)?;
     append(out, b" ")?;
     append_payload(alloc, out, change.sample.payload.as_slice())?;
     append(out, b"\n")
 }
 
-/// The lines of the changes of a topic, in their order.
-pub fn text_of(alloc: Global, topic: &[u8], changes: &[Change]) -> Result<Vec<u8>, OutOfMemory>
-    ensures { IfOk result (λ v. v.items ≡ list_text topic.now changes.now) }
+/// Appends the lines of the changes of a topic, in their order.
+pub fn append_topic(
+    alloc: Global,
+    out: &mut Vec<u8>,
+    topic: &[u8],
+    changes: &[Change],
+) -> Result<(), OutOfMemory>
+    ensures { OnOk result (out.new.items ≡ out.old.items ++ topic_text topic.now changes.now) }
 {
-    let mut out = Vec::new(alloc);
     let mut rest = changes;
     while let [change, later @ ..] = rest {
-        append_change(alloc, &mut out, topic, change)?;
+        append_change(alloc, out, topic, change)?;
         rest = later;
     }
-    Ok(out)
+    Ok(())
 }

@@ -8,7 +8,6 @@ invariant-pieces g l = record {
   seen : List ℕ;
   consumed : Consumes (g.S.Source.left l.fn.input) (g.S.Source.left l.input) seen;
   reads : l.reader ≡ after start seen;
-  text : l.text ≡ seen;
   size : l.before ≡ length seen;
   all : taken start seen ≡ length seen;
   later : g.S.Source.faults l.fn.input ≤ g.S.Source.faults l.input;

@@ -1,9 +1,0 @@
-use Rattle.std.proofs.Common.{◌≡◌, ◌++◌, length}
-use Rattle.dur_rerun.specs.List.Line.{list_text}
-use Rattle.dur_rerun.proofs.list.line.text_of.Given as goal
-
-abbrev pub invariant-loop-rest : goal.invariant-loop-rest
-invariant-loop-rest l = l.out.items ++ list_text l.topic l.rest ≡ list_text l.topic l.changes
-
-abbrev pub decreases-loop-rest : goal.decreases-loop-rest
-decreases-loop-rest l = length l.rest
