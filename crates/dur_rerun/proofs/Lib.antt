@@ -1,6 +1,7 @@
 pub mod Admitting
 pub mod Commands
 pub mod Handing
+pub mod LateRuns
 pub mod Lists
 pub mod OneInput
 pub mod OneList
@@ -10,4 +11,6 @@ pub mod Rest
 pub mod Says
 pub mod Shows
 pub mod Taking
+pub mod TurnLaws
+pub mod TurnSteps
 pub mod Whole

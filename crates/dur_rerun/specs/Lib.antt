@@ -1,6 +1,7 @@
 pub mod Admission
 pub mod Command
 pub mod Input
+pub mod Late
 pub mod List
 pub mod Saying
 pub mod Show

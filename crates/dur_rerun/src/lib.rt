@@ -1,9 +1,11 @@
 //! The commands of the service over a source and a rig: what became of a run; `show`, which prints what each
-//! record of a capture tells; and `list`, which prints what a capture's history entitles a late reader to.
+//! record of a capture tells; and `list`, which prints what a capture's history entitles a late reader to. And
+//! `late`, a late reader over a link.
 #![tactic(auto)]
 
 mod admit;
 mod input;
+pub mod late;
 pub mod list;
 mod output;
 pub mod show;

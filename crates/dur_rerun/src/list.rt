@@ -8,7 +8,7 @@ ghost use Rattle.dur_rerun.specs.List.Answer.{Lists, ListAnswers, ListEnds, Ends
 
 mod history;
 mod laws;
-mod line;
+pub(crate) mod line;
 mod listing;
 
 use crate::input::plan::open_plan;

@@ -2,10 +2,10 @@
 
 ghost use Rattle.std.specs.Prelude.{◌≡◌, ◌∷◌, ◌++◌, [], OnOk};
 ghost use Rattle.hex.specs.Hex.{encode_lower};
-ghost use Rattle.dur_rerun.specs.List.Line.{act_text, payload_text, list_line, topic_text};
+ghost use Rattle.dur_rerun.specs.List.Line.{act_text, payload_text, change_text, list_line, topic_text};
 
 use crate::text::{append, append_number};
-use dur_base::{Act, OutOfMemory};
+use dur_base::{Act, Guid, Number, OutOfMemory, Sample};
 use dur_view::Change;
 use std::alloc::Global;
 
@@ -36,6 +36,29 @@ fn append_payload(alloc: Global, out: &mut Vec<u8>, octets: &[u8]) -> Result<(),
     }
 }
 
+/// Appends what a line says of a change behind its topic, and the line's end.
+#[tactic(auto, unfolding(crate::specs::List::Line::change_text))]
+pub fn append_words(
+    alloc: Global,
+    out: &mut Vec<u8>,
+    original: Guid,
+    number: Number,
+    sample: &Sample,
+) -> Result<(), OutOfMemory>
+    ensures { OnOk result (out.new.items ≡ out.old.items ++ change_text original number sample.now) }
+{
+    append_hex(alloc, out, &original.0)?;
+    append(out, b" ")?;
+    append_number(out, number.get())?;
+    append(out, b" ")?;
+    append_hex(alloc, out, &sample.key.0)?;
+    append_act(out, sample.act)?;
+    append_number(out, sample.stamp.0)?;
+    append(out, b" ")?;
+    append_payload(alloc, out, sample.payload.as_slice())?;
+    append(out, b"\n")
+}
+
 #[tactic(auto, unfolding(crate::specs::List::Line::list_line))]
 fn append_change(
     alloc: Global,
@@ -47,16 +70,7 @@ fn append_change(
 {
     append(out, topic)?;
     append(out, b" ")?;
-    append_hex(alloc, out, &change.original.0)?;
-    append(out, b" ")?;
-    append_number(out, change.number.get())?;
-    append(out, b" ")?;
-    append_hex(alloc, out, &change.sample.key.0)?;
-    append_act(out, change.sample.act)?;
-    append_number(out, change.sample.stamp.0)?;
-    append(out, b" ")?;
-    append_payload(alloc, out, change.sample.payload.as_slice())?;
-    append(out, b"\n")
+    append_words(alloc, out, change.original, change.number, &change.sample)
 }
 
 /// Appends the lines of the changes of a topic, in their order.
