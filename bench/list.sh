@@ -1,14 +1,18 @@
 #!/usr/bin/env bash
-# How fast `durability list` goes over captures of 1,000 and of 10,000 samples of 1, of 16 and of 1,000 instances, as
-# datagrams a second and as ratios to `cat` of as many octets and to `durability show` of the same capture. What a run
-# over the plan alone takes is the start of a process, and is not counted. The store behind it goes over its whole history
-# at each entry, so its time grows with the square of their number, until it keeps an index.
+# How fast `durability list` goes over captures of 250 and of 1,000 samples, or of as many as COUNTS names, of 1, of 16 and
+# of 1,000 instances, as datagrams a second and as ratios to `cat` of as many octets and to `durability show` of the same
+# capture. What a run over the plan alone takes is the start of a process, and is not counted. The store behind it looks for
+# each entry at each change of its history and at what came after it, so its time grows with the cube of their number until
+# it keeps an index: 10,000 take more than an hour, and are run from then on.
+#
+#     [COUNTS="1000 10000"] list.sh [PROGRAM]
 set -eu
 cd "$(dirname "$0")/.."
 program=${1:-$(tests/program.sh)}
+counts=${COUNTS:-250 1000}
 folder=$(mktemp -d)
 trap 'rm -rf "$folder"' EXIT
-python3 - "$folder" <<'PYTHON'
+python3 - "$folder" $counts <<'PYTHON'
 import struct, sys
 plan = b"prefix 0102030405060708\ntopic T transient hash 10 - - - - 0\nwriter " + b"a1" * 12 + b"00000102 T -\nend\n"
 head = bytes.fromhex("5254505302050000") + b"\xa1" * 12
@@ -23,7 +27,7 @@ def put(name, octets):
         out.write(octets)
 put("plan", plan)
 put("large", bytes(1 << 27))
-for count in (1000, 10000):
+for count in map(int, sys.argv[2:]):
     for instances in (1, 16, 1000):
         put(f"{count}-{instances}", plan + b"".join(record(number, instances) for number in range(1, count + 1)))
 PYTHON
@@ -41,10 +45,10 @@ least() {
 }
 start=$(least 5 plan "$program" list)
 cat_time=$(( $(least 5 large cat) - $(least 5 plan cat) ))
-for count in 1000 10000; do
+for count in $counts; do
     for instances in 1 16 1000; do
         name=$count-$instances
-        list_time=$(least $(( count > 1000 ? 1 : 5 )) "$name" "$program" list)
+        list_time=$(least $(( count > 250 ? 1 : 5 )) "$name" "$program" list)
         show_time=$(least 5 "$name" "$program" show)
         awk -v count="$count" -v instances="$instances" -v size="$(wc -c < "$folder/$name")" -v large="$(wc -c < "$folder/large")" \
             -v list="$((list_time - start))" -v show="$((show_time - start))" -v cat="$cat_time" 'BEGIN {
