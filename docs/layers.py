@@ -3,8 +3,9 @@
 import os
 
 LAYERS = [
-    ("program", [("durability", "command line, faults"), ("dur_rerun", "statuses, list, show")]),
-    ("service", [("dur_hub", "one admitted history"), ("rel_writer", "sessions, late readers"), ("dur_record", "texts of a journal")]),
+    ("program", [("durability", "command line, faults"), ("dur_rerun", "statuses, list, show, late")]),
+    ("service", [("dur_hub", "one admitted history"), ("rel_writer", "sessions, late readers")]),
+    ("storage", [("dur_record", "texts of a journal"), ("dur_journal", "two files, any crash")]),
     ("histories", [("dur_store", "history of all topics"), ("dur_view", "definitions and laws")]),
     ("streams", [("dur_capture", "records of a capture"), ("dur_qos", "plan text"), ("rel_reader", "known numbers")]),
     ("wire", [("rtps_params", "parameter lists"), ("rtps_submsg", "submessages"), ("rtps_message", "facts, keys, messages")]),

@@ -1,0 +1,16 @@
+pub mod Gates
+pub mod Fronts
+pub mod Calls
+pub mod TextReadings
+pub mod Sizes
+pub mod Wholes
+pub mod Completed
+pub mod Restored
+pub mod Records
+pub mod FileTexts
+pub mod Lives
+pub mod Loads
+pub mod Fields
+pub mod News
+pub mod Standing
+pub mod Once

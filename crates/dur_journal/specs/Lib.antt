@@ -1,0 +1,10 @@
+pub mod Texts
+pub mod Histories
+pub mod File
+pub mod Steps
+pub mod Kept
+pub mod Reading
+pub mod Opening
+pub mod Journals
+pub mod Stores
+pub mod Looks
