@@ -1,6 +1,7 @@
 #!/usr/bin/env python3
-"""Holds the documents to the source: each clause of a standard that a comment names stands in docs/CLAUSES.md, and each
-name that docs/CLAUSES.md and docs/GLOSSARY.md give stands in the source. Prints what does not, and ends with 1 then."""
+"""Holds the documents to the source: each clause of a standard that a comment names stands in docs/CLAUSES.md; each name
+that docs/CLAUSES.md and docs/GLOSSARY.md give, and each `function.clause` of a crate's page, stands in the source; each
+crate has a page; and each link leads to a file. Prints what does not, and ends with 1 then."""
 import pathlib
 import re
 import sys
@@ -44,6 +45,43 @@ def stands(name):
     return any(item.search(path.read_text(encoding="utf-8")) for path in (folder / "src").glob("**/*.rt"))
 
 
+def clauses_of(crate):
+    """What a crate's page may name: its functions, records and types, and the labels of their clauses and fields."""
+    names, labels = set(), set()
+    for path in list((TOP / "crates" / crate / "src").glob("**/*.rt")) + list((TOP / "crates" / crate / "specs").glob("**/*.antt")):
+        text = path.read_text(encoding="utf-8")
+        names.update(re.findall(r"\b(?:fn|struct|enum|trait|mod|record|abbrev pub|data) ([A-Za-z_0-9]+)", text))
+        names.update([path.stem])
+        labels.update(re.findall(r"\b(?:ensures|requires) ([a-z_0-9]+) \{", text))
+        labels.update(re.findall(r"^ +(?:pub )?([a-z_0-9 ]+?) :", text, re.M))
+        labels.update(re.findall(r"^ +(?:pub )?([a-z_0-9]+):", text, re.M))
+    return names, {word for label in labels for word in label.split()}
+
+
+def page_faults(crate):
+    """What a crate's page names in the form `function.clause` and its source lacks."""
+    page = TOP / "crates" / crate / "README.md"
+    if not page.is_file():
+        return [f"crates/{crate} has no README.md"]
+    names, labels = clauses_of(crate)
+    promises = re.search(r"^## Promises$(.*?)(?=^## |\Z)", page.read_text(encoding="utf-8"), re.M | re.S)
+    found = re.findall(r"`(?:[A-Za-z_0-9]+::)*([A-Za-z_0-9]+)\.([a-z_]+)`", promises.group(1) if promises else "")
+    return [
+        f"crates/{crate}/README.md names {name}.{label}, which does not stand in the source"
+        for name, label in found
+        if name not in names or label not in labels and label not in names
+    ]
+
+
+def dead_links():
+    """Each link of a page to a file that is not there."""
+    pages = [*TOP.glob("*.md"), *TOP.glob("docs/*.md"), *TOP.glob("examples/*.md"), *TOP.glob("crates/*/README.md")]
+    for page in pages:
+        for link in re.findall(r"\]\(([^)#]+)", page.read_text(encoding="utf-8")):
+            if not link.startswith("http") and not (page.parent / link).exists():
+                yield f"{page.relative_to(TOP)} links to {link}, which is not there"
+
+
 def main():
     index = (TOP / "docs/CLAUSES.md").read_text(encoding="utf-8")
     faults = []
@@ -55,7 +93,10 @@ def main():
         for name in sorted(set(NAME.findall((TOP / page).read_text(encoding="utf-8")))):
             if not stands(name):
                 faults.append(f"{page} names {name}, which does not stand in the source")
-    print("\n".join(faults) if faults else f"documents: {len(listed)} clauses, each name stands")
+    crates = sorted(path.parent.name for path in TOP.glob("crates/*/src"))
+    faults += [fault for crate in crates for fault in page_faults(crate)]
+    faults += dead_links()
+    print("\n".join(faults) if faults else f"documents: {len(listed)} clauses, {len(crates)} crates; each name stands")
     return 1 if faults else 0
 
 
