@@ -1,8 +1,11 @@
 //! A stop after each call of an opening, a commit and a compaction that changes or syncs a file, opened again.
 
-use crate::Opened;
-use crate::quiet::crashed;
-use crate::tests::{PERSISTENT, batch, commit, found, open, with_records};
+ghost use Rattle.std.specs.Prelude.{IfSome};
+ghost use Rattle.dur_journal.specs.Histories.{IsBase};
+
+use crate::quiet::{Quiet, crashed};
+use crate::tests::{PERSISTENT, batch, commit, found, open, plan_of, with_records};
+use crate::{Journal, Opened};
 use dur_base::Number;
 use std::alloc::Global;
 use std::test::*;
@@ -18,14 +21,24 @@ fn stopped_commit(alloc: Global, calls: u64, pick: u64) -> Option<(u64, u32)> {
     found(alloc, crashed(disk, pick)?)
 }
 
+// The same journal, opened again.
+fn reopened(alloc: Global) -> Option<Opened<Quiet>>
+    ensures { IfSome result (λ o. IsBase o.view) }
+{
+    let plan = plan_of(alloc, PERSISTENT)?;
+    match Journal::open(alloc, with_records(alloc)?.close(), &plan) {
+        Ok(opened) => Some(opened),
+        Err(_) => None,
+    }
+}
+
 // The same of a compaction, by the view of entries 1 and 2 as another opening found it.
 fn stopped_compaction(alloc: Global, calls: u64, pick: u64) -> Option<(u64, u32)> {
-    let opened = open(alloc, with_records(alloc)?.close(), PERSISTENT)?.ok()?;
     let Opened {
         mut journal,
         view,
         ..
-    } = opened;
+    } = reopened(alloc)?;
     let batch = batch(alloc, journal.position(), Number::at(3))?;
     journal.disk.disk.fail_from(calls);
     let disk = match journal.compact(alloc, &batch, &view) {

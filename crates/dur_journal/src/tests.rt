@@ -44,7 +44,7 @@ fn read_plan(alloc: Global, text: &[u8]) -> Result<Plan, PlanFault>
 }
 
 // A plan of this topic and one writer.
-fn plan_of(alloc: Global, topic: &[u8]) -> Option<Plan>
+pub(crate) fn plan_of(alloc: Global, topic: &[u8]) -> Option<Plan>
     ensures { IfSome result (λ p. GoodPlan p) }
 {
     let mut text = Vec::new(alloc);
