@@ -165,11 +165,16 @@ def plan_of(writers, readers):
 
 
 def summary(datagrams):
-    """What datagrams announce, as text, and a plan that would list it."""
+    """What datagrams announce, as text, with a plan that would list it."""
+    return summed_up(datagrams)[0]
+
+
+def summed_up(datagrams):
+    """What datagrams announce, as text with a plan that would list it, and that plan by itself."""
     participants, writers, readers = announced(datagrams)
     out = [f"participant {prefix} {name}".rstrip() for prefix, name in participants.items()]
     for word, found in (("writer", writers), ("reader", readers)):
         out += [f"{word} {one.guid} topic {one.topic} type {one.type} {one.durability}" for one in found]
     plan, notes = plan_of(writers, readers)
     out += ["", "A plan that lists the writers (its prefix is any 8 octets):", plan]
-    return "\n".join([*out, *(f"Note: {note}." for note in notes)]).strip() + "\n"
+    return "\n".join([*out, *(f"Note: {note}." for note in notes)]).strip() + "\n", plan

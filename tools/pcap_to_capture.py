@@ -1,14 +1,16 @@
 #!/usr/bin/env python3
 """Makes capture records of the UDP datagrams in a file of tcpdump or Wireshark.
 
-    pcap_to_capture.py [--port N]... [--source ADDRESS]... [--output FILE] [--plan FILE | --summary] PCAP
+    pcap_to_capture.py [--port N]... [--source ADDRESS]... [--output FILE]
+        [--plan FILE | --summary [--plan-to FILE]] PCAP
 
 Reads classic pcap and pcapng over Ethernet, Linux cooked (each with VLAN tags), raw IP and loopback links,
 IPv4 and IPv6. A record's moment is the packet's time since the Unix epoch in ticks of 2^-32 s, and its
 port is the UDP destination port. With --port only datagrams to one of these ports are taken, with
 --source only those from one of these addresses. With --plan that file's octets stand in front, so
 that what is written is a whole input. With --summary the participants, writers and readers that
-discovery announces in these datagrams are printed in place of records, and a plan that would list them.
+discovery announces in these datagrams are printed in place of records, and a plan that would list them;
+with --plan-to that plan is written to a file of its own, too.
 
 Fragments of UDP, packets that were cut off when they were captured, packets of links of other types,
 and packets that are no UDP are left out, and counted on standard error. A file that is broken or of
@@ -25,7 +27,7 @@ import sys
 import tempfile
 from collections import Counter
 
-from announced import summary
+from announced import summed_up
 
 LONGEST = 65507
 VLAN_TAGS = (0x8100, 0x88A8, 0x9100)
@@ -309,18 +311,24 @@ def arguments():
     form = parser.add_mutually_exclusive_group()
     form.add_argument("--plan", help="put this file in front")
     form.add_argument("--summary", action="store_true", help="print what discovery announces, and a plan that would list it")
+    parser.add_argument("--plan-to", metavar="FILE", help="with --summary, write the plan to this file, too")
     parser.add_argument("pcap", metavar="PCAP")
-    return parser.parse_args()
+    given = parser.parse_args()
+    if given.plan_to and not given.summary:
+        parser.error("--plan-to is for --summary")
+    return given
 
 
 def made(given):
-    """What is to be written, and how many packets were what."""
+    """What is to be written, the plan for --plan-to, and how many packets were what."""
     with open(given.pcap, "rb") as file:
         data = file.read()
     if given.summary:
         found, counts = datagrams(data, given.port, given.source)
-        return summary(octets for _, _, octets in found).encode(), counts
-    return convert(data, given.port, given.source)
+        text, plan = summed_up(octets for _, _, octets in found)
+        return text.encode(), plan.encode(), counts
+    octets, counts = convert(data, given.port, given.source)
+    return octets, b"", counts
 
 
 def write_out(path, octets):
@@ -349,7 +357,9 @@ def main():
     try:
         plan = read_plan(given.plan) if given.plan else b""
         path = given.pcap
-        octets, counts = made(given)
+        octets, found_plan, counts = made(given)
+        if given.plan_to:
+            write_out(given.plan_to, found_plan)
         write_out(given.output, plan + octets)
     except BadFile as fault:
         say(f"{path}: {fault}")

@@ -295,8 +295,10 @@ class Runs(unittest.TestCase):
         done = self.run_tool("--summary", "in.pcap")
         self.assertEqual(done.returncode, 0)
         self.assertTrue(done.stdout.decode().endswith("\nprefix 0000000000000000\nend\n"))
-        self.run_tool("--summary", "--output", "out", "in.pcap")
+        self.run_tool("--summary", "--output", "out", "--plan-to", "plan", "in.pcap")
         self.assertEqual(self.got("out"), done.stdout)
+        self.assertEqual(self.got("plan"), b"prefix 0000000000000000\nend\n")
+        self.assertEqual(self.run_tool("--plan-to", "plan", "in.pcap").returncode, 2)
 
 
 if __name__ == "__main__":
