@@ -152,56 +152,7 @@ fn main(rt: HostRuntime) -> io::Result<()> {
     }
 }
 PROGRAM
-cat > "$work/plain.c" <<'PROGRAM'
-/* plain FILE COMMITS OCTETS: appends so many octets in each of so many commits, each with its gate. */
-#define _GNU_SOURCE
-#include <fcntl.h>
-#include <stdint.h>
-#include <stdio.h>
-#include <stdlib.h>
-#include <string.h>
-#include <time.h>
-#include <unistd.h>
-
-static uint64_t now(void) {
-    struct timespec t;
-    clock_gettime(CLOCK_MONOTONIC, &t);
-    return t.tv_sec * 1000000000ull + t.tv_nsec;
-}
-
-int main(int argc, char **argv) {
-    int file = open(argv[1], O_CREAT | O_RDWR | O_TRUNC, 0600);
-    long commits = atol(argv[2]), octets = atol(argv[3]);
-    char *text = calloc(1, octets);
-    if (argc < 4 || file < 0 || !text) return 1;
-    memset(text, 7, octets);
-    uint64_t start = now();
-    for (long n = 0; n < commits; n++) {
-        off_t at = (off_t)n * octets;
-        if (pwrite(file, text, octets, at + 1) != octets || fdatasync(file)) return 1;
-        if (pwrite(file, text, 1, at) != 1 || fdatasync(file)) return 1;
-    }
-    printf("%llu\n", (unsigned long long)(now() - start));
-    return 0;
-}
-PROGRAM
-cc -O2 -o "$work/plain" "$work/plain.c"
-cat > "$work/sqlite.py" <<'PROGRAM'
-import sqlite3, sys, time
-path, commits, count = sys.argv[1], int(sys.argv[2]), int(sys.argv[3])
-base = sqlite3.connect(path, isolation_level=None)
-base.execute("pragma journal_mode = wal")
-base.execute("pragma synchronous = full")
-base.execute("create table entries (number integer primary key, key blob, payload blob)")
-payload, number = b"\7" * 256, 0
-start = time.perf_counter_ns()
-for commit in range(commits):
-    base.execute("begin immediate")
-    base.executemany("insert into entries values (?, ?, ?)", ((number + n, bytes([n % 16]) * 16, payload) for n in range(count)))
-    base.execute("commit")
-    number += count
-print(time.perf_counter_ns() - start)
-PROGRAM
+cc -O2 -o "$work/append" bench/append.c
 cat > "$work/batches.py" <<'PROGRAM'
 import sys
 first, count = int(sys.argv[1]), int(sys.argv[2])
@@ -229,8 +180,8 @@ measure() {
         rm -rf "${files:?}"/*
         mkdir "$files/ours"
         read -r _ commits octets nanos < <("$program" "$files/ours" < "$work/batches" | grep commits)
-        plain=$("$work/plain" "$files/plain" "$commits" $((octets / commits)))
-        sqlite=$(python3 "$work/sqlite.py" "$files/base" "$commits" "$count")
+        plain=$("$work/append" "$files/plain" "$commits" $((octets / commits)))
+        sqlite=$(python3 bench/rows.py "$files/base" "$commits" "$count")
         echo "$nanos $plain $sqlite $commits"
     done > "$work/rounds"
     awk -v count="$count" '
@@ -246,7 +197,7 @@ measure 100 15
 
 "$program" "$files/ours" < /dev/null > /dev/null
 read -r _ kept nanos < <("$program" "$files/ours" < /dev/null | grep opened)
-plain=$("$work/plain" "$files/plain" 1 "$(stat -c %s "$files/ours/journal.0")")
+plain=$("$work/append" "$files/plain" 1 "$(stat -c %s "$files/ours/journal.0")")
 awk -v kept="$kept" -v ours="$nanos" -v plain="$plain" 'BEGIN {
     printf "opening with %d kept changes: %.1f ms, %.2f times as long as a write of their octets in C\n", kept, ours / 1e6, ours / plain
 }'
