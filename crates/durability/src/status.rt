@@ -91,7 +91,7 @@ fn plan_fault(number: u32, kind: PlanKind) -> ArrayVec<u8, 64>
 }
 
 /// Says a line as far as the sink takes it.
-fn say_line<E: Sink>(err: &mut E, line: &[u8])
+pub fn say_line<E: Sink>(err: &mut E, line: &[u8])
     ensures some { E.tells → IsSaid line.now (E.world err.old).now (E.world err.new).now }
     ensures all { E.tells → (Rose (E.sink_faults err.old) (E.sink_faults err.new) → ⊥) → (E.world err.new).now ≡ wrote line.now (E.world err.old).now }
 {

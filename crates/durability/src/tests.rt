@@ -1,6 +1,8 @@
 //! Command lines, what breaks an input, and each of a run's objects failing.
 
+mod late;
 mod rows;
+mod session_link;
 
 use crate::run::durability;
 use crate::status::number;
@@ -90,6 +92,21 @@ fn run(alloc: Global, word: &str, first: &[u8], second: &[u8], fails: Fails) -> 
     }
 }
 
+/// A run of these words over no input.
+fn run_words(alloc: Global, words: &[String]) -> Outcome {
+    let mut input = MemSource::new(Octets::new(alloc), List::new(alloc));
+    let mut err = MemSink::new(List::new(alloc));
+    let disk = MemDisk::new(Octets::new(alloc), Octets::new(alloc), List::new(alloc));
+    let rig = MemRig::new(disk, MemSink::new(List::new(alloc)));
+    let ran = durability(alloc, words, &mut input, rig, &mut err);
+    let (_, out) = ran.rig.parts();
+    Outcome {
+        status: ran.status,
+        out,
+        err,
+    }
+}
+
 /// A run of `list` whose output is this.
 fn gives(done: &Outcome, status: Status, out: &[u8], err: &[u8]) -> bool {
     done.status == status
@@ -132,24 +149,29 @@ fn line_of(alloc: Global, texts: &[&str]) -> Result<Line, WordsFault> {
     }
 }
 
+/// Whether these words are no command line.
+fn is_usage(alloc: Global, texts: &[&str]) -> bool {
+    matches!(&line_of(alloc, texts), Err(WordsFault::Usage))
+}
+
 #[test]
 fn options_are_read_in_both_spellings(rt: HostRuntime) {
     let alloc = rt.alloc();
     let line = line_of(alloc, ["list", "--at", "7", "--epoch=3"].as_slice());
     assert!(rt;
-        line == Ok(Line::List {
-            at: Ticks(7),
-            epoch: 3
-        })
+        matches!(
+            &line,
+            Ok(Line::List {
+                at: Ticks(7),
+                epoch: 3
+            })
+        )
     );
     let line = line_of(alloc, ["show", "--epoch=4294967295"].as_slice());
-    assert!(rt; line == Ok(Line::Show { epoch: 0xffff_ffff }));
-    let twice = line_of(alloc, ["list", "--epoch=1", "--epoch", "1"].as_slice());
-    assert!(rt; twice == Err(WordsFault::Usage));
-    let zero = line_of(alloc, ["list", "--at", "07"].as_slice());
-    assert!(rt; zero == Err(WordsFault::Usage));
-    let ended = line_of(alloc, ["list", "--"].as_slice());
-    assert!(rt; ended == Err(WordsFault::Usage));
+    assert!(rt; matches!(&line, Ok(Line::Show { epoch: 0xffff_ffff })));
+    assert!(rt; is_usage(alloc, ["list", "--epoch=1", "--epoch", "1"].as_slice()));
+    assert!(rt; is_usage(alloc, ["list", "--at", "07"].as_slice()));
+    assert!(rt; is_usage(alloc, ["list", "--"].as_slice()));
 }
 
 /// A heartbeat at moment 5: its record has 66 octets.
