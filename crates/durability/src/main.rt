@@ -30,8 +30,8 @@ fn main(rt: HostRuntime) -> ExitCode {
         Ok(words) => words,
         Err(error) => {
             let status = status_of_words(&error);
-            say_fault(&mut err, status);
-            return ExitCode::from(number(status));
+            say_fault(&mut err, &status);
+            return ExitCode::from(number(&status));
         }
     };
     if let Ok(Line::Late { peer, .. }) = read_words(rt.alloc(), &words) {
@@ -40,7 +40,7 @@ fn main(rt: HostRuntime) -> ExitCode {
     let mut input = StdSource::new(rt.stdin());
     let rig = OutputRig::new(StdSink::new(rt.stdout()));
     let ran = durability(rt.alloc(), &words, &mut input, rig, &mut err);
-    ExitCode::from(number(ran.status))
+    ExitCode::from(number(&ran.status))
 }
 
 /// Runs `late` over a socket to that address, and says what went wrong.

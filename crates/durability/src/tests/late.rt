@@ -325,7 +325,7 @@ fn late_is_no_line_of_durability(rt: HostRuntime) {
     let alloc = rt.alloc();
     let words = spelled(alloc, OPTIONS, false).expect(&rt, "memory");
     let ran = run_words(alloc, &words);
-    assert!(rt; gives(&ran, Status::Usage, b"", b"durability: usage\n"));
+    assert!(rt; gives(&ran, &Status::Usage, b"", b"durability: usage\n"));
 }
 
 /// Whether a status has that number, and that is said of it.
