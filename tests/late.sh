@@ -18,6 +18,7 @@ say_failed() { echo "tests/late.sh: $1"; failed=1; }
 
 # A server of so many changes, which loses each datagram with a multiple of that number; `port` is where it is heard.
 serve() {
+    rm -f "$folder/port"
     python3 tests/tools/replay_server.py "$1" "$2" > "$folder/port" &
     server=$!
     for _ in {1..100}; do
@@ -58,15 +59,16 @@ replays 5 0
 replays 5 3
 replays 300 7
 
+# In the first turn nothing can have come, and in the second one no more than a HEARTBEAT.
 serve 5 0
-late "127.0.0.1:$port" 4 13 'durability: unfinished'
-prints 2
+late "127.0.0.1:$port" 2 13 'durability: unfinished'
+prints 0
 kill "$server"
 wait "$server" 2> /dev/null
 late "127.0.0.1:$port" 2 13 'durability: unfinished'
-prints 0
 serve 5 0
 late "127.0.0.1:$port" 2000 6 'durability: write fault' /dev/full
+wait "$server" || say_failed "the server was not told that all of them came"
 server=
 late 127.0.0.1:0 2 12 'durability: link fault'
 late localhost 2 2 'durability: usage'
