@@ -21,7 +21,7 @@ use Rattle.dur_hub.specs.Replays.{listing}
 use Rattle.dur_hub.specs.Hubs.{Stands}
 use Rattle.dur_rerun.specs.declared.input.plan.Opened.{Opened}
 use Rattle.dur_rerun.specs.declared.status.Status.{Status}
-use Rattle.dur_rerun.specs.declared.status.Status.TheVariants.{Done, Usage, OutOfMemory, Input, ReadFault, WriteFault, Plan}
+use Rattle.dur_rerun.specs.declared.status.Status.TheVariants.{Done, Usage, OutOfMemory, Input, ReadFault, WriteFault, Plan, DiskFault, NotAJournal, PlanDiffers, Full, Worn}
 use Rattle.dur_rerun.specs.Admission.{BringAll}
 use Rattle.dur_rerun.specs.Command.{HasReason, GoesOut, status_of}
 use Rattle.dur_rerun.specs.Saying.{IsSaid, wrote}
@@ -106,6 +106,11 @@ rest_answers OutOfMemory at epoch input p n plan_is ends stops = refl
 rest_answers ReadFault at epoch input p n plan_is ends stops = refl
 rest_answers Done at epoch input p n plan_is ends stops = absurd ends
 rest_answers Usage at epoch input p n plan_is ends stops = absurd ends
+rest_answers DiskFault at epoch input p n plan_is ends stops = absurd ends
+rest_answers (NotAJournal file at') at epoch input p n plan_is ends stops = absurd ends
+rest_answers (PlanDiffers name) at epoch input p n plan_is ends stops = absurd ends
+rest_answers (Full size) at epoch input p n plan_is ends stops = absurd ends
+rest_answers Worn at epoch input p n plan_is ends stops = absurd ends
 rest_answers WriteFault at epoch input p n plan_is ends stops = absurd ends
 rest_answers (Plan line kind) at epoch input p n plan_is ends stops = absurd ends
 
@@ -122,6 +127,11 @@ plan_lists ReadFault at epoch input ends stops = refl
 plan_lists (Plan line k) at epoch input ends stops = (refl, stops)
 plan_lists Done at epoch input ends stops = absurd ends
 plan_lists Usage at epoch input ends stops = absurd ends
+plan_lists DiskFault at epoch input ends stops = absurd ends
+plan_lists (NotAJournal file at') at epoch input ends stops = absurd ends
+plan_lists (PlanDiffers name) at epoch input ends stops = absurd ends
+plan_lists (Full size) at epoch input ends stops = absurd ends
+plan_lists Worn at epoch input ends stops = absurd ends
 plan_lists WriteFault at epoch input ends stops = absurd ends
 plan_lists (Input place fault) at epoch input ends stops = absurd ends
 
@@ -133,6 +143,11 @@ plan_unwritten ReadFault ends = tt
 plan_unwritten (Plan line k) ends = ends
 plan_unwritten Done ends = absurd ends
 plan_unwritten Usage ends = absurd ends
+plan_unwritten DiskFault ends = absurd ends
+plan_unwritten (NotAJournal file at') ends = absurd ends
+plan_unwritten (PlanDiffers name) ends = absurd ends
+plan_unwritten (Full size) ends = absurd ends
+plan_unwritten Worn ends = absurd ends
 plan_unwritten WriteFault ends = absurd ends
 plan_unwritten (Input place fault) ends = absurd ends
 
@@ -142,6 +157,11 @@ records_unwritten ReadFault ends = tt
 records_unwritten (Input place fault) ends = ends
 records_unwritten Done ends = absurd ends
 records_unwritten Usage ends = absurd ends
+records_unwritten DiskFault ends = absurd ends
+records_unwritten (NotAJournal file at') ends = absurd ends
+records_unwritten (PlanDiffers name) ends = absurd ends
+records_unwritten (Full size) ends = absurd ends
+records_unwritten Worn ends = absurd ends
 records_unwritten WriteFault ends = absurd ends
 records_unwritten (Plan line kind) ends = absurd ends
 
@@ -152,6 +172,11 @@ unwritten_ends (Input place fault) ends = ends
 unwritten_ends (Plan line k) ends = ends
 unwritten_ends Done ends = absurd ends
 unwritten_ends Usage ends = absurd ends
+unwritten_ends DiskFault ends = absurd ends
+unwritten_ends (NotAJournal file at') ends = absurd ends
+unwritten_ends (PlanDiffers name) ends = absurd ends
+unwritten_ends (Full size) ends = absurd ends
+unwritten_ends Worn ends = absurd ends
 unwritten_ends WriteFault ends = absurd ends
 
 -- ---- the text goes out

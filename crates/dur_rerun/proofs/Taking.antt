@@ -14,7 +14,7 @@ use Rattle.dur_hub.specs.declared.hub.Hub.{Hub}
 use Rattle.dur_hub.specs.Runs.{Run}
 use Rattle.dur_hub.specs.Hubs.{Stands, Adds}
 use Rattle.dur_rerun.specs.declared.status.Status.{Status}
-use Rattle.dur_rerun.specs.declared.status.Status.TheVariants.{Done, Usage, OutOfMemory as Memory, Input, ReadFault, WriteFault, Plan}
+use Rattle.dur_rerun.specs.declared.status.Status.TheVariants.{Done, Usage, OutOfMemory as Memory, Input, ReadFault, WriteFault, Plan, DiskFault, NotAJournal, PlanDiffers, Full, Worn}
 use Rattle.dur_rerun.specs.Admission.{BringAll}
 use Rattle.dur_rerun.specs.Input.Breaks.{place_at, EndsRecords}
 use Rattle.dur_rerun.specs.Input.Records.{given, HandsOut, Ends, BreaksOff, StopsRecords}
@@ -92,6 +92,11 @@ stops_rest Memory before known mid now octets seen rs f consumed feeds ends stop
 stops_rest ReadFault before known mid now octets seen rs f consumed feeds ends stops = if_any known (λ tail. Unit {0}) (λ tail. tt)
 stops_rest Done before known mid now octets seen rs f consumed feeds ends stops = absurd ends
 stops_rest Usage before known mid now octets seen rs f consumed feeds ends stops = absurd ends
+stops_rest DiskFault before known mid now octets seen rs f consumed feeds ends stops = absurd ends
+stops_rest (NotAJournal file at') before known mid now octets seen rs f consumed feeds ends stops = absurd ends
+stops_rest (PlanDiffers name) before known mid now octets seen rs f consumed feeds ends stops = absurd ends
+stops_rest (Full size) before known mid now octets seen rs f consumed feeds ends stops = absurd ends
+stops_rest Worn before known mid now octets seen rs f consumed feeds ends stops = absurd ends
 stops_rest WriteFault before known mid now octets seen rs f consumed feeds ends stops = absurd ends
 stops_rest (Plan line kind) before known mid now octets seen rs f consumed feeds ends stops = absurd ends
 

@@ -14,6 +14,7 @@ mod text;
 
 pub use output::say;
 pub use status::{Ran, Status};
+pub use text::digit_of;
 
 #[cfg(test)]
 mod tests;

@@ -3,4 +3,5 @@ pub mod Parses
 pub mod Rules
 pub mod Spelling
 pub mod TopCall
+pub mod Values
 pub mod Walks

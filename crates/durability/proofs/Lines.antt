@@ -1,6 +1,5 @@
 -- The command lines that the options and their numbers make.
-use Rattle.std.proofs.Common.{◌≡◌, ◌≢◌, ◌⊎◌, ◌==◌, ◌||◌, ◌&&◌, ◌<◌, ◌≤◌, ◌+◌, ◌^◌, ℕ, zero, suc, Bool, true, false, cond, List, [], ◌∷◌, ◌++◌, drop, get_or, length, Option, Some, None, Result, Ok, Err, refl, sym, ap, subst, ◌∙◌, arith, inl, inr, map, codes, append-nil, append_assoc}
-use Rattle.std.specs.Prelude.{slice_index}
+use Rattle.std.proofs.Common.{◌≡◌, ◌≢◌, ◌⊎◌, ◌==◌, ◌<◌, ◌≤◌, ◌^◌, ℕ, zero, suc, Bool, true, false, cond, List, [], ◌∷◌, ◌++◌, drop, get_or, Option, Some, None, Result, Err, refl, sym, ap, subst, ◌∙◌, arith, inl, inr, codes, append_assoc}
 use Rattle.std.specs.Str.{bytes_eq}
 use Rattle.std.specs.Str.Parse.{IsNumeral, digits_value, without_leading_plus}
 use Rattle.std.specs.List.{list_any, AllByRecursion}
@@ -21,12 +20,13 @@ use Rattle.clap.proofs.WalkLemmas.{both, first_value-rows}
 use Rattle.durability.specs.declared.words.Line.{Line}
 use Rattle.durability.specs.declared.words.Line.TheVariants as line
 use Rattle.durability.specs.declared.words.WordsFault.TheVariants.{Usage, OutOfMemory}
-use Rattle.durability.specs.Options.{Given, dashed, Spells, IsNew, AreNew, IsAmong, IsPlain, IsOptions, value_of, IsNumber}
-use Rattle.durability.specs.Commands.{command_of, list_names, show_names, HasOptions, AreNames, words_fault}
-use Rattle.durability.specs.CommandLine.{IsList, IsShow, IsLine}
+use Rattle.durability.specs.Options.{Given, Spells, IsNew, AreNew, IsPlain, IsOptions, value_of, IsNumber, IsHex, IsText, IsCount}
+use Rattle.durability.specs.Commands.{command_of, list_names, show_names, late_names, HasOptions, AreNames, words_fault}
+use Rattle.durability.specs.CommandLine.{IsList, IsShow, IsLate, IsLine}
 use Rattle.durability.proofs.Spelling.{eq_of, eq_same, eq_not, bool_no, not_dashes, not_nil}
 use Rattle.durability.proofs.Rules.{knows, row}
-use Rattle.durability.proofs.Walks.{rows_of, Follows, Known, Plain, NoDashes, NamesOk, IsRead, dashed_some}
+use Rattle.durability.proofs.Walks.{rows_of, Follows, Known, Plain, NoDashes, NamesOk, dashed_some}
+use Rattle.durability.proofs.Values.{hex_plain, hex_once, text_plain, text_once}
 use Rattle.durability.proofs.Parses.{matches_are, options_read, options_pass}
 
 -- ---- numbers
@@ -174,18 +174,26 @@ plain_all names all each seen (o ∷ more) is new known = (
   plain_all names all each (seen ++ o ∷ []) more (is ∙ sym (append_assoc seen (o ∷ []) more)) new.1 known.1,
 )
 
-list_known : (n : Text) → knows list_names n ≡ true → (codes "at" ≡ n) ⊎ (codes "epoch" ≡ n)
-list_known n k = go (bytes_eq (codes "at") n) (bytes_eq (codes "epoch") n) refl refl where
-  go : (a b : Bool) → bytes_eq (codes "at") n ≡ a → bytes_eq (codes "epoch") n ≡ b → (codes "at" ≡ n) ⊎ (codes "epoch" ≡ n)
-  go true b e f = inl (eq_of (codes "at") n e)
-  go false true e f = inr (eq_of (codes "epoch") n f)
-  go false false e f = let no = rw (e, f) at k in absurd cc
+-- what holds of each name holds of a name that is among them
+named : (P : Text → Type 0) (names : List Text) → AllByRecursion P names → (n : Text) → knows names n ≡ true → P n
+named P [] each n k = absurd cc
+named P (x ∷ names) each n k = go (bytes_eq x n) refl (λ m. named P names each.1 n m) where
+  go : (b : Bool) → bytes_eq x n ≡ b → (knows names n ≡ true → P n) → P n
+  go true e later = subst P (eq_of x n e) each.0
+  go false e later = later (rw e at k)
 
-show_known : (n : Text) → knows show_names n ≡ true → codes "epoch" ≡ n
-show_known n k = go (bytes_eq (codes "epoch") n) refl where
-  go : (b : Bool) → bytes_eq (codes "epoch") n ≡ b → codes "epoch" ≡ n
-  go true f = eq_of (codes "epoch") n f
-  go false f = let no = rw f at k in absurd cc
+-- the value that is given to this option begins with no dash
+abbrev pub HasPlain : List Given → Text → Type 0
+HasPlain given n = (v : Text) → value_of n given ≡ Some v → IsPlain v
+
+-- the options that clap found are those of a command line where each value begins with no dash
+are_options : (names words : List Text) (m : ArgMatches) (h : HasOptions names words m) → AllByRecursion (HasPlain h.given) names → IsOptions names words h.given
+are_options names words m h each = record {
+  spells = h.spells;
+  known = h.known;
+  once = h.once;
+  plain = plain_all names h.given (λ n k v is. named (HasPlain h.given) names each n k v is) [] h.given refl h.once h.known;
+}
 
 pub list_is : (words : List Text) (m : ArgMatches) (at epoch : ℕ) (a e : Option Text) → (h : HasOptions list_names words m) → a ≡ first_value (found_of m) (codes "at") → e ≡ first_value (found_of m) (codes "epoch") → IsNumber a at → at < 2 ^ 64 → IsNumber e epoch → epoch < 2 ^ 32
     → IsList (codes "list" ∷ words) at epoch
@@ -196,15 +204,10 @@ list_is words m at epoch a e h ais eis an al en el =
       rest = words;
       given = h.given;
       words_are = refl;
-      options = record {
-        spells = h.spells;
-        known = h.known;
-        once = h.once;
-        plain = plain_all list_names h.given (λ n k v is. elim (list_known n k) [
-          | inl x ↦ number_plain (value_of (codes "at") h.given) at al ats v (ap (λ (t : Text). value_of t h.given) x ∙ is)
-          | inr x ↦ number_plain (value_of (codes "epoch") h.given) epoch (omega (arith, el)) es v (ap (λ (t : Text). value_of t h.given) x ∙ is)
-        ]) [] h.given refl h.once h.known;
-      };
+      options = are_options list_names words m h (
+        number_plain (value_of (codes "at") h.given) at al ats,
+        (number_plain (value_of (codes "epoch") h.given) epoch (omega (arith, el)) es, tt),
+      );
       at_is = (ats, al);
       epoch_is = (es, el);
     }
@@ -216,13 +219,46 @@ show_is words m epoch e h eis en el =
       rest = words;
       given = h.given;
       words_are = refl;
-      options = record {
-        spells = h.spells;
-        known = h.known;
-        once = h.once;
-        plain = plain_all show_names h.given (λ n k v is. number_plain (value_of (codes "epoch") h.given) epoch (omega (arith, el)) es v (ap (λ (t : Text). value_of t h.given) (show_known n k) ∙ is)) [] h.given refl h.once h.known;
-      };
+      options = are_options show_names words m h (number_plain (value_of (codes "epoch") h.given) epoch (omega (arith, el)) es, tt);
       epoch_is = (es, el);
+    }
+
+-- what was found in clap's answer is given
+as_given : (P : Option Text → Type 0) (names words : List Text) (m : ArgMatches) (h : HasOptions names words m) (name : Text) (o : Option Text) → o ≡ first_value (found_of m) name → P o → P (value_of name h.given)
+as_given P names words m h name o is holds = subst P (is ∙ h.values name) holds
+
+pub late_is : (words : List Text) (m : ArgMatches) (reader prefix writer peer : List ℕ) (turns : ℕ) (r p w e t : Option Text) → (h : HasOptions late_names words m)
+    → r ≡ first_value (found_of m) (codes "reader") → p ≡ first_value (found_of m) (codes "prefix") → w ≡ first_value (found_of m) (codes "writer") → e ≡ first_value (found_of m) (codes "peer") → t ≡ first_value (found_of m) (codes "turns")
+    → IsHex 16 r reader → IsHex 8 p prefix → IsHex 4 w writer → IsText e peer → IsCount t turns → turns < 2 ^ 32
+    → IsLate (codes "late" ∷ words) reader prefix writer peer turns
+late_is words m reader prefix writer peer turns r p w e t h ris pis wis eis tis rh ph wh et tn tl =
+    let rs : IsHex 16 (value_of (codes "reader") h.given) reader = as_given (λ o. IsHex 16 o reader) late_names words m h (codes "reader") r ris rh in
+    let ps : IsHex 8 (value_of (codes "prefix") h.given) prefix = as_given (λ o. IsHex 8 o prefix) late_names words m h (codes "prefix") p pis ph in
+    let ws : IsHex 4 (value_of (codes "writer") h.given) writer = as_given (λ o. IsHex 4 o writer) late_names words m h (codes "writer") w wis wh in
+    let es : IsText (value_of (codes "peer") h.given) peer = as_given (λ o. IsText o peer) late_names words m h (codes "peer") e eis et in
+    let ts : IsCount (value_of (codes "turns") h.given) turns = as_given (λ o. IsCount o turns) late_names words m h (codes "turns") t tis tn in
+    record {
+      rest = words;
+      given = h.given;
+      words_are = refl;
+      options = are_options late_names words m h (
+        hex_plain 16 (value_of (codes "reader") h.given) reader rs,
+        (
+          hex_plain 8 (value_of (codes "prefix") h.given) prefix ps,
+          (
+            hex_plain 4 (value_of (codes "writer") h.given) writer ws,
+            (
+              text_plain (value_of (codes "peer") h.given) peer es,
+              (number_plain (value_of (codes "turns") h.given) turns (omega (arith, tl)) ts.0, tt),
+            ),
+          ),
+        ),
+      );
+      reader_is = rs;
+      prefix_is = ps;
+      writer_is = ws;
+      peer_is = es;
+      turns_is = (ts, tl);
     }
 
 -- ---- no other line
@@ -231,19 +267,62 @@ abbrev slice_first : List Text → Text
 slice_first [] = []
 slice_first (w ∷ words) = w
 
+abbrev rest_of : List Text → List Text
+rest_of [] = []
+rest_of (w ∷ words) = words
+
+-- words begin with one word
+other_words : (a b : Text) (r s : List Text) → bytes_eq a b ≡ false → a ∷ r ≡ b ∷ s → ⊥
+other_words a b r s differ same =
+    let first : a ≡ b = ap (λ (w : List Text). slice_first w) same in
+    bool_no (bytes_eq a b) (ap (bytes_eq a) (sym first) ∙ eq_same a) differ
+
+-- a line whose first word is `list`, or `show`, or `late`
+line_of_list : (words : List Text) (l : Line) → IsLine (codes "list" ∷ words) l → (at : ℕ) × (epoch : ℕ) × (l ≡ line.List at epoch) × IsList (codes "list" ∷ words) at epoch
+line_of_list words (line.List at epoch) h = (at, epoch, refl, h)
+line_of_list words (line.Show epoch) h = absurd (other_words (codes "list") (codes "show") words h.rest refl h.words_are)
+line_of_list words (line.Late reader prefix writer peer turns) h = absurd (other_words (codes "list") (codes "late") words h.rest refl h.words_are)
+
+line_of_show : (words : List Text) (l : Line) → IsLine (codes "show" ∷ words) l → (epoch : ℕ) × (l ≡ line.Show epoch) × IsShow (codes "show" ∷ words) epoch
+line_of_show words (line.List at epoch) h = absurd (other_words (codes "show") (codes "list") words h.rest refl h.words_are)
+line_of_show words (line.Show epoch) h = (epoch, refl, h)
+line_of_show words (line.Late reader prefix writer peer turns) h = absurd (other_words (codes "show") (codes "late") words h.rest refl h.words_are)
+
+line_of_late : (words : List Text) (l : Line) → IsLine (codes "late" ∷ words) l
+    → (reader : List ℕ) × (prefix : List ℕ) × (writer : List ℕ) × (peer : List ℕ) × (turns : ℕ) × (l ≡ line.Late reader prefix writer peer turns) × IsLate (codes "late" ∷ words) reader prefix writer peer turns
+line_of_late words (line.List at epoch) h = absurd (other_words (codes "late") (codes "list") words h.rest refl h.words_are)
+line_of_late words (line.Show epoch) h = absurd (other_words (codes "late") (codes "show") words h.rest refl h.words_are)
+line_of_late words (line.Late reader prefix writer peer turns) h = (reader, prefix, writer, peer, turns, refl, h)
+
 -- the words of `list` are no line where their options are none, or their numbers are none
 pub list_no : (words : List Text) (l : Line) → ((given : List Given) (at epoch : ℕ) → IsOptions list_names words given → IsNumber (value_of (codes "at") given) at → at < 2 ^ 64 → IsNumber (value_of (codes "epoch") given) epoch → epoch < 2 ^ 32 → ⊥)
     → IsLine (codes "list" ∷ words) l → ⊥
-list_no words (line.List at epoch) never h =
-    let rest : h.rest ≡ words = cc in
-    never h.given at epoch (subst (λ (w : List Text). IsOptions list_names w h.given) rest h.options) h.at_is.0 h.at_is.1 h.epoch_is.0 h.epoch_is.1
-list_no words (line.Show epoch) never h = let other : codes "list" ≡ codes "show" = ap (λ (w : List Text). slice_first w) h.words_are in bool_no (bytes_eq (codes "list") (codes "show")) (ap (bytes_eq (codes "list")) (sym other) ∙ eq_same (codes "list")) refl
+list_no words l never is =
+    let h = (line_of_list words l is).3 in
+    let rest : h.rest ≡ words = sym (ap (λ (w : List Text). rest_of w) h.words_are) in
+    never h.given (line_of_list words l is).0 (line_of_list words l is).1 (subst (λ (w : List Text). IsOptions list_names w h.given) rest h.options) h.at_is.0 h.at_is.1 h.epoch_is.0 h.epoch_is.1
 
 pub show_no : (words : List Text) (l : Line) → ((given : List Given) (epoch : ℕ) → IsOptions show_names words given → IsNumber (value_of (codes "epoch") given) epoch → epoch < 2 ^ 32 → ⊥) → IsLine (codes "show" ∷ words) l → ⊥
-show_no words (line.Show epoch) never h =
-    let rest : h.rest ≡ words = cc in
-    never h.given epoch (subst (λ (w : List Text). IsOptions show_names w h.given) rest h.options) h.epoch_is.0 h.epoch_is.1
-show_no words (line.List at epoch) never h = let other : codes "show" ≡ codes "list" = ap (λ (w : List Text). slice_first w) h.words_are in bool_no (bytes_eq (codes "show") (codes "list")) (ap (bytes_eq (codes "show")) (sym other) ∙ eq_same (codes "show")) refl
+show_no words l never is =
+    let h = (line_of_show words l is).2 in
+    let rest : h.rest ≡ words = sym (ap (λ (w : List Text). rest_of w) h.words_are) in
+    never h.given (line_of_show words l is).0 (subst (λ (w : List Text). IsOptions show_names w h.given) rest h.options) h.epoch_is.0 h.epoch_is.1
+
+-- the words of `late` are no line where no options make one of them
+pub late_no : (words : List Text) (l : Line) → ((given : List Given) (reader prefix writer peer : List ℕ) (turns : ℕ) → IsOptions late_names words given
+    → IsHex 16 (value_of (codes "reader") given) reader → IsHex 8 (value_of (codes "prefix") given) prefix → IsHex 4 (value_of (codes "writer") given) writer → IsText (value_of (codes "peer") given) peer → IsCount (value_of (codes "turns") given) turns → turns < 2 ^ 32 → ⊥)
+    → IsLine (codes "late" ∷ words) l → ⊥
+late_no words l never is =
+    let found = line_of_late words l is in
+    let h = found.6 in
+    let rest : h.rest ≡ words = sym (ap (λ (w : List Text). rest_of w) h.words_are) in
+    never h.given found.0 found.1 found.2 found.3 found.4 (subst (λ (w : List Text). IsOptions late_names w h.given) rest h.options) h.reader_is h.prefix_is h.writer_is h.peer_is h.turns_is.0 h.turns_is.1
+
+-- the value of an option that is none
+pub value_no : (P : Option Text → Type 0) (names words : List Text) (m : ArgMatches) (h : HasOptions names words m) (name : Text) (o : Option Text) (given : List Given) → o ≡ first_value (found_of m) name → (P o → ⊥)
+    → IsOptions names words given → P (value_of name given) → ⊥
+value_no P names words m h name o given is never options holds =
+    never (subst P (ap (value_of name) (h.only given options) ∙ sym (h.values name) ∙ sym is) holds)
 
 -- a number of an option that is none
 pub number_no : (names words : List Text) (m : ArgMatches) (h : HasOptions names words m) (name : Text) (o : Option Text) (given : List Given) (n most : ℕ) → o ≡ first_value (found_of m) name → ((k : ℕ) → IsNumber o k → k ≤ most → ⊥)
@@ -260,35 +339,53 @@ same_err {A} {B} {E} x y z is same = let last : x ≡ z = cc in ap (λ (e : E). 
 
 -- ---- one line
 
-abbrev rest_of : List Text → List Text
-rest_of [] = []
-rest_of (w ∷ words) = words
-
 pub list_are : AreNames list_names
 list_are = ((λ is. absurd cc, refl), ((λ is. absurd cc, refl), tt))
 
 pub show_are : AreNames show_names
 show_are = ((λ is. absurd cc, refl), tt)
 
+pub late_are : AreNames late_names
+late_are = ((λ is. absurd cc, refl), ((λ is. absurd cc, refl), ((λ is. absurd cc, refl), ((λ is. absurd cc, refl), ((λ is. absurd cc, refl), tt)))))
+
 one_given : (name : Text) (names words : List Text) (a b : List Given) → AreNames names → IsOptions names words a → IsOptions names words b → a ≡ b
 one_given name names words a b ok x y = rows_once a b (sym (passes name names words a ok x).1 ∙ (passes name names words b ok y).1)
 
-other_words : (words r s : List Text) → words ≡ codes "list" ∷ r → words ≡ codes "show" ∷ s → ⊥
-other_words words r s a b =
-    let other : codes "list" ≡ codes "show" = ap (λ (w : List Text). slice_first w) (sym a ∙ b) in
-    bool_no (bytes_eq (codes "list") (codes "show")) (ap (bytes_eq (codes "list")) (sym other) ∙ eq_same (codes "list")) refl
-
-pub one_line : (words : List Text) (a b : Line) → IsLine words a → IsLine words b → a ≡ b
-one_line words (line.List at epoch) (line.List at' epoch') h k =
+list_once : (words : List Text) (at epoch at' epoch' : ℕ) → IsList words at epoch → IsList words at' epoch' → line.List at epoch ≡ line.List at' epoch'
+list_once words at epoch at' epoch' h k =
     let rest : h.rest ≡ k.rest = ap (λ (w : List Text). rest_of w) (sym h.words_are ∙ k.words_are) in
     let given : h.given ≡ k.given = one_given (codes "list") list_names k.rest h.given k.given list_are (subst (λ (w : List Text). IsOptions list_names w h.given) rest h.options) k.options in
     let ats : at ≡ at' = number_once (value_of (codes "at") k.given) at at' h.at_is.1 k.at_is.1 (subst (λ (g : List Given). IsNumber (value_of (codes "at") g) at) given h.at_is.0) k.at_is.0 in
     let epochs : epoch ≡ epoch' = number_once (value_of (codes "epoch") k.given) epoch epoch' (omega (arith, h.epoch_is.1)) (omega (arith, k.epoch_is.1)) (subst (λ (g : List Given). IsNumber (value_of (codes "epoch") g) epoch) given h.epoch_is.0) k.epoch_is.0 in
     ap (λ (n : ℕ). line.List n epoch) ats ∙ ap (λ (n : ℕ). line.List at' n) epochs
-one_line words (line.Show epoch) (line.Show epoch') h k =
+
+show_once : (words : List Text) (epoch epoch' : ℕ) → IsShow words epoch → IsShow words epoch' → line.Show epoch ≡ line.Show epoch'
+show_once words epoch epoch' h k =
     let rest : h.rest ≡ k.rest = ap (λ (w : List Text). rest_of w) (sym h.words_are ∙ k.words_are) in
     let given : h.given ≡ k.given = one_given (codes "show") show_names k.rest h.given k.given show_are (subst (λ (w : List Text). IsOptions show_names w h.given) rest h.options) k.options in
     let epochs : epoch ≡ epoch' = number_once (value_of (codes "epoch") k.given) epoch epoch' (omega (arith, h.epoch_is.1)) (omega (arith, k.epoch_is.1)) (subst (λ (g : List Given). IsNumber (value_of (codes "epoch") g) epoch) given h.epoch_is.0) k.epoch_is.0 in
     ap (λ (n : ℕ). line.Show n) epochs
-one_line words (line.List at epoch) (line.Show epoch') h k = absurd (other_words words h.rest k.rest h.words_are k.words_are)
-one_line words (line.Show epoch) (line.List at epoch') h k = absurd (other_words words k.rest h.rest k.words_are h.words_are)
+
+-- the words of `late` say one reader, prefix, writer, peer and number of turns
+pub late_once : (words : List Text) (r p w e r' p' w' e' : List ℕ) (t t' : ℕ) → IsLate words r p w e t → IsLate words r' p' w' e' t' → line.Late r p w e t ≡ line.Late r' p' w' e' t'
+late_once words r p w e r' p' w' e' t t' h k =
+    let rest : h.rest ≡ k.rest = ap (λ (x : List Text). rest_of x) (sym h.words_are ∙ k.words_are) in
+    let given : h.given ≡ k.given = one_given (codes "late") late_names k.rest h.given k.given late_are (subst (λ (x : List Text). IsOptions late_names x h.given) rest h.options) k.options in
+    let rs : r ≡ r' = hex_once 16 (value_of (codes "reader") k.given) r r' (subst (λ (g : List Given). IsHex 16 (value_of (codes "reader") g) r) given h.reader_is) k.reader_is in
+    let ps : p ≡ p' = hex_once 8 (value_of (codes "prefix") k.given) p p' (subst (λ (g : List Given). IsHex 8 (value_of (codes "prefix") g) p) given h.prefix_is) k.prefix_is in
+    let ws : w ≡ w' = hex_once 4 (value_of (codes "writer") k.given) w w' (subst (λ (g : List Given). IsHex 4 (value_of (codes "writer") g) w) given h.writer_is) k.writer_is in
+    let es : e ≡ e' = text_once (value_of (codes "peer") k.given) e e' (subst (λ (g : List Given). IsText (value_of (codes "peer") g) e) given h.peer_is) k.peer_is in
+    let ts : t ≡ t' = number_once (value_of (codes "turns") k.given) t t' (omega (arith, h.turns_is.1)) (omega (arith, k.turns_is.1)) (subst (λ (g : List Given). IsNumber (value_of (codes "turns") g) t) given h.turns_is.0.0) k.turns_is.0.0 in
+    ap (λ (x : List ℕ). line.Late x p w e t) rs ∙ ap (λ (x : List ℕ). line.Late r' x w e t) ps ∙ ap (λ (x : List ℕ). line.Late r' p' x e t) ws
+    ∙ ap (λ (x : List ℕ). line.Late r' p' w' x t) es ∙ ap (λ (x : ℕ). line.Late r' p' w' e' x) ts
+
+pub one_line : (words : List Text) (a b : Line) → IsLine words a → IsLine words b → a ≡ b
+one_line words (line.List at epoch) b h k =
+    let other = line_of_list h.rest b (subst (λ (w : List Text). IsLine w b) h.words_are k) in
+    list_once (codes "list" ∷ h.rest) at epoch other.0 other.1 (subst (λ (w : List Text). IsList w at epoch) h.words_are h) other.3 ∙ sym other.2
+one_line words (line.Show epoch) b h k =
+    let other = line_of_show h.rest b (subst (λ (w : List Text). IsLine w b) h.words_are k) in
+    show_once (codes "show" ∷ h.rest) epoch other.0 (subst (λ (w : List Text). IsShow w epoch) h.words_are h) other.2 ∙ sym other.1
+one_line words (line.Late r p w e t) b h k =
+    let other = line_of_late h.rest b (subst (λ (x : List Text). IsLine x b) h.words_are k) in
+    late_once (codes "late" ∷ h.rest) r p w e other.0 other.1 other.2 other.3 t other.4 (subst (λ (x : List Text). IsLate x r p w e t) h.words_are h) other.6 ∙ sym other.5

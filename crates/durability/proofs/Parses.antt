@@ -1,20 +1,17 @@
 -- What clap makes of the words of a command whose arguments are options, as a whole.
-use Rattle.std.proofs.Common.{◌≡◌, ◌≢◌, ◌==◌, ◌||◌, ◌+◌, ℕ, Bool, true, false, List, [], ◌∷◌, ◌++◌, Option, Some, None, refl, sym, ap, subst, ◌∙◌, map}
+use Rattle.std.proofs.Common.{◌≡◌, ℕ, Bool, true, false, List, [], ◌∷◌, None, refl, sym, ap, ◌∙◌, map}
 use Rattle.std.specs.Prelude.{fold, not, ◌&&◌}
-use Rattle.std.specs.Str.{bytes_eq}
-use Rattle.std.specs.List.{list_any, list_all, AllByRecursion}
-use Rattle.clap.specs.Walk.{Held, Row, Rule, Text, Walk, has_row, with_default, finished, nothing_held, settled, walk, first_of}
-use Rattle.clap.specs.Simple.{App, Shape, new_rule, new_shape, with_rule, built, filled_from, matches_of, names_of, is_simple}
+use Rattle.std.specs.List.{list_any}
+use Rattle.clap.specs.Walk.{Row, Rule, Text, has_row, with_default, nothing_held}
+use Rattle.clap.specs.Simple.{App, built, filled_from, matches_of, names_of}
 use Rattle.clap.specs.Takes.{is_given}
-use Rattle.clap.specs.Kinds.{Kinds, or_else}
 use Rattle.clap.specs.Walk.{rows_after, idle}
-use Rattle.clap.specs.Faults.{fault_of, level_fault, built_fault, defaults_fault, default_fault, check_fault, settle_fault, walk_fault, is_simple_and_free}
-use Rattle.clap.specs.declared.builder.action.ArgAction.TheVariants.{Set}
+use Rattle.clap.specs.Faults.{fault_of, level_fault, built_fault, defaults_fault, default_fault, check_fault}
 use Rattle.clap.proofs.FaultLemmas.{leaf_fault}
 use Rattle.durability.specs.Commands.{new_option, command_of}
 use Rattle.durability.specs.Options.{Given, Spells}
-use Rattle.durability.proofs.Rules.{option_rule, rules, leaf, knows, or_none, or_both, st}
-use Rattle.durability.proofs.Walks.{rows_of, Follows, Known, Plain, NoDashes, NamesOk, IsRead, IsPassed, sound, complete, end_of, settled_end}
+use Rattle.durability.proofs.Rules.{option_rule, rules, leaf, or_none, or_both, st}
+use Rattle.durability.proofs.Walks.{rows_of, Follows, Known, Plain, NoDashes, NamesOk, IsRead, IsPassed, sound, complete, settled_end}
 
 -- ---- the command
 

@@ -1,19 +1,19 @@
 -- The rules of a command whose arguments are options, and what clap makes of a word.
-use Rattle.std.proofs.Common.{◌≡◌, ◌≢◌, ◌<◌, ◌==◌, ◌||◌, ◌+◌, ℕ, zero, suc, Bool, true, false, cond, List, [], ◌∷◌, ◌++◌, length, Option, Some, None, refl, sym, ap, subst, ◌∙◌, arith, inl, inr, map, append-nil}
+use Rattle.std.proofs.Common.{◌≡◌, ℕ, Bool, true, false, List, [], ◌∷◌, ◌++◌, Option, Some, None, refl, ap, ◌∙◌, map, append-nil}
 use Rattle.std.specs.Prelude.{slice_get}
 use Rattle.std.specs.Str.{bytes_eq, chars}
 use Rattle.std.specs.List.{list_any}
-use Rattle.clap.specs.Lexer.{long_of, short_of}
-use Rattle.clap.specs.Walk.{Held, Names, Outcome, Row, Rule, Step, Text, Waiting, Walk, idle, option, positional, next, value, at_row, more_values, with_values, without, used, has_row, arg_by_long, arg_by_id, arg_by_short, arg_by_index, reacted, settled, settled_rows, plain_word, short_word, bundle, bundle_met, long_or_other, word_met, walked, after_step, plain}
+use Rattle.clap.specs.Lexer.{long_of}
+use Rattle.clap.specs.Walk.{Held, Row, Rule, Step, Text, Waiting, Walk, idle, option, positional, next, value, at_row, more_values, with_values, without, used, has_row, arg_by_long, arg_by_id, arg_by_short, arg_by_index, reacted, settled, plain_word, short_word, bundle_met, long_or_other, word_met, walked, after_step}
 use Rattle.clap.specs.Simple.{Shape, new_rule, new_shape}
 use Rattle.clap.specs.Kinds.{Kinds, or_else}
-use Rattle.clap.specs.Faults.{use_fault, settle_fault, flag_word_fault, flags_fault, bundle_fault, word_fault, step_fault, turn_fault, walk_fault}
+use Rattle.clap.specs.Faults.{use_fault, settle_fault, flag_word_fault, flags_fault, bundle_fault, word_fault, step_fault, walk_fault}
 use Rattle.clap.specs.declared.builder.action.ArgAction.TheVariants.{Set}
 use Rattle.clap.specs.declared.builder.value_parser.ValueParser.TheVariants as vp
 use Rattle.clap.specs.declared.builder.value_parser.Reading.TheVariants.{AsWritten}
 use Rattle.clap.specs.declared.parser.matches.ValueSource.TheVariants.{CommandLine}
 use Rattle.clap.specs.declared.error.kind.ErrorKind.TheVariants as kind
-use Rattle.durability.proofs.Spelling.{eq_of, eq_same, bool_no}
+use Rattle.durability.proofs.Spelling.{eq_of, eq_same}
 
 -- ---- the rules
 

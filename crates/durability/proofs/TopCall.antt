@@ -1,30 +1,52 @@
 -- What holds of the one line that the words are holds of each.
-use Rattle.std.proofs.Common.{◌≡◌, ℕ, List, [], Option, refl, sym, subst, inl}
+use Rattle.std.proofs.Common.{ℕ, List, [], Option, refl, subst, inl}
 use Rattle.std.specs.Prelude.{IfSome}
 use Rattle.dur_outside.specs.World.{Image}
-use Rattle.dur_rerun.specs.declared.status.Status.{Status}
-use Rattle.dur_rerun.specs.declared.status.Status.TheVariants.{OutOfMemory}
-use Rattle.dur_rerun.specs.Command.{HasReason, Arrives, GoesOut}
+use Rattle.dur_rerun.specs.declared.status.Status.TheVariants.{Usage, OutOfMemory}
+use Rattle.dur_rerun.specs.Command.{HasReason, GoesOut}
 use Rattle.dur_rerun.proofs.Commands.{if_any, nothing_out}
 use Rattle.durability.specs.declared.words.Line.{Line}
 use Rattle.durability.specs.declared.words.Line.TheVariants as line
-use Rattle.durability.specs.CommandLine.{IsLine, answers_of, ends_of}
+use Rattle.rel_writer.specs.LateReaders.{Late, fresh}
+use Rattle.durability.specs.CommandLine.{IsLine}
+use Rattle.durability.specs.Calls.{IsOwn, IsOwnLine, IsOfLate, AsksFor, answers_of, ends_of}
 use Rattle.durability.proofs.Lines.{one_line}
 
 pub each_line : (P : Line → Type 0) (words : List (List ℕ)) (a : Line) → IsLine words a → P a → (l : Line) → IsLine words l → P l
 each_line P words a is holds l h = subst P (one_line words a l is h) holds
 
+-- what holds of the one line where it is one of `durability` holds of each such line
+pub each_own : (P : Line → Type 0) (words : List (List ℕ)) (a : Line) → IsLine words a → (IsOwn a → P a) → (l : Line) → IsOwnLine words l → P l
+each_own P words a is holds l h = each_line (λ (x : Line). IsOwn x → P x) words a is holds l h.0 h.1
+
+-- words that ask for a late reader are the one line, which does
+pub of_late : (words : List (List ℕ)) (a : Line) → IsLine words a → (first : Late) (turns : ℕ) → AsksFor words first turns → IsOfLate a first turns
+of_late words a is first turns h = subst (λ (x : Line). IsOfLate x first turns) (one_line words h.0 a h.1 is) h.2
+
+-- words that ask for none are a line of `durability`
+pub not_late : (words : List (List ℕ)) (a : Line) → IsLine words a → ((first : Late) (turns : ℕ) → AsksFor words first turns → ⊥) → IsOwn a
+not_late words (line.List at epoch) is never = tt
+not_late words (line.Show epoch) is never = tt
+not_late words (line.Late reader prefix writer peer turns) is never = absurd (never (fresh reader prefix writer) turns (line.Late reader prefix writer peer turns, is, (refl, refl)))
+
+pub usage_never : (l : Line) → ends_of l Usage → ⊥
+usage_never (line.List at epoch) h = h
+usage_never (line.Show epoch) h = h
+usage_never (line.Late reader prefix writer peer turns) h = h
+
 -- want of memory before the command began
-memory_ends : (l : Line) → ends_of l OutOfMemory
-memory_ends (line.List at epoch) = tt
-memory_ends (line.Show epoch) = tt
+memory_ends : (l : Line) → IsOwn l → ends_of l OutOfMemory
+memory_ends (line.List at epoch) own = tt
+memory_ends (line.Show epoch) own = tt
+memory_ends (line.Late reader prefix writer peer turns) own = absurd own
 
-memory_answers : (l : Line) (input : List ℕ) → answers_of l input [] OutOfMemory
-memory_answers (line.List at epoch) input = refl
-memory_answers (line.Show epoch) input = inl refl
+memory_answers : (l : Line) → IsOwn l → (input : List ℕ) → answers_of l input [] OutOfMemory
+memory_answers (line.List at epoch) own input = refl
+memory_answers (line.Show epoch) own input = inl refl
+memory_answers (line.Late reader prefix writer peer turns) own input = absurd own
 
-pub memory_reason : (l : Line) (left : Option (List ℕ)) (reads reads_now writes writes_now : ℕ) → HasReason (ends_of l) OutOfMemory left reads reads_now writes writes_now
-memory_reason l left reads reads_now writes writes_now = record { ends = memory_ends l; done = λ is. absurd cc; read = λ is. absurd cc; write = λ is. absurd cc }
+pub memory_reason : (l : Line) → IsOwn l → (left : Option (List ℕ)) (reads reads_now writes writes_now : ℕ) → HasReason (ends_of l) OutOfMemory left reads reads_now writes writes_now
+memory_reason l own left reads reads_now writes writes_now = record { ends = memory_ends l own; done = λ is. absurd cc; read = λ is. absurd cc; write = λ is. absurd cc }
 
-pub memory_out : (l : Line) (known : Option (List ℕ)) (tells : Type 0) (now : Image) → IfSome known (λ input. GoesOut (answers_of l) input OutOfMemory tells now now)
-memory_out l known tells now = if_any known (λ input. GoesOut (answers_of l) input OutOfMemory tells now now) (λ input. nothing_out (answers_of l) input OutOfMemory tells now (memory_answers l input))
+pub memory_out : (l : Line) → IsOwn l → (known : Option (List ℕ)) (tells : Type 0) (now : Image) → IfSome known (λ input. GoesOut (answers_of l) input OutOfMemory tells now now)
+memory_out l own known tells now = if_any known (λ input. GoesOut (answers_of l) input OutOfMemory tells now now) (λ input. nothing_out (answers_of l) input OutOfMemory tells now (memory_answers l own input))

@@ -1,16 +1,15 @@
 -- What clap reads of the words of a command whose arguments are options.
-use Rattle.std.proofs.Common.{◌≡◌, ◌≢◌, ◌==◌, ◌||◌, ℕ, Bool, true, false, List, [], ◌∷◌, ◌++◌, Option, Some, None, refl, sym, ap, subst, ◌∙◌, inl, inr, map, append-nil, append_assoc}
+use Rattle.std.proofs.Common.{◌≡◌, ◌≢◌, ◌==◌, Bool, true, false, List, [], ◌∷◌, ◌++◌, Option, Some, None, refl, sym, ap, subst, ◌∙◌, inl, inr, map, append-nil, append_assoc}
 use Rattle.std.specs.Prelude.{fold}
 use Rattle.std.specs.Str.{bytes_eq}
 use Rattle.std.specs.List.{list_any, AllByRecursion}
 use Rattle.clap.specs.Lexer.{long_of, short_of}
-use Rattle.clap.specs.Walk.{Held, Row, Step, Text, Waiting, Walk, idle, option, next, value, has_row, settled_rows, plain_word, short_word, long_or_other, word_met, walked, used}
-use Rattle.clap.specs.Kinds.{Kinds, or_else}
-use Rattle.clap.specs.Faults.{use_fault, settle_fault, flag_word_fault, word_fault, step_fault, walk_fault}
+use Rattle.clap.specs.Walk.{Held, Row, Step, Text, Waiting, Walk, idle, option, next, has_row, settled_rows, plain_word, long_or_other, word_met, walked, used}
+use Rattle.clap.specs.Faults.{use_fault, settle_fault, flag_word_fault, word_fault, walk_fault}
 use Rattle.clap.specs.declared.error.kind.ErrorKind.TheVariants as kind
-use Rattle.durability.specs.Options.{Given, dashed, Begins, Spells, IsPlain}
-use Rattle.durability.proofs.Spelling.{eq_of, eq_same, eq_not, bool_no, spelled_apart, spelled_joined, long_apart, long_joined, long_plain, short_plain, not_dashes, not_nil}
-use Rattle.durability.proofs.Rules.{option_rule, rules, leaf, knows, by_long, by_id, row, used_new, use_new, use_old, use_none, met_long, known_value, known_none, fault_long, flag_value, flag_none, flag_unknown, held, plain_known, short_case, or_none, or_both, st, turn_parts, turn_joins, walked_to, step_next, step_stray}
+use Rattle.durability.specs.Options.{Given, dashed, Spells, IsPlain}
+use Rattle.durability.proofs.Spelling.{eq_not, spelled_apart, spelled_joined, long_apart, long_joined, long_plain, short_plain, not_dashes, not_nil}
+use Rattle.durability.proofs.Rules.{option_rule, rules, leaf, knows, by_id, row, used_new, use_new, use_old, use_none, met_long, known_value, known_none, fault_long, flag_value, flag_none, flag_unknown, held, plain_known, short_case, or_none, or_both, st, turn_parts, turn_joins, walked_to, step_next, step_stray}
 
 -- ---- options given so far
 

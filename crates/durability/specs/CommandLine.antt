@@ -1,12 +1,9 @@
--- The command lines, and what each of them answers.
+-- The command lines.
 use Rattle.std.specs.Prelude.{◌≡◌, ◌<◌, ◌^◌, ℕ, List, ◌∷◌, codes}
-use Rattle.dur_rerun.specs.declared.status.Status.{Status}
-use Rattle.dur_rerun.specs.List.Answer.{ListAnswers, ListEnds}
-use Rattle.dur_rerun.specs.Show.Answer.{ShowAnswers, ShowEnds}
 use Rattle.durability.specs.declared.words.Line.{Line}
 use Rattle.durability.specs.declared.words.Line.TheVariants as line
-use Rattle.durability.specs.Options.{Given, IsOptions, IsNumber, value_of}
-use Rattle.durability.specs.Commands.{list_names, show_names}
+use Rattle.durability.specs.Options.{Given, IsOptions, IsNumber, IsHex, IsText, IsCount, value_of}
+use Rattle.durability.specs.Commands.{list_names, show_names, late_names}
 
 -- the word `list` and its options
 pub record IsList (words : List (List ℕ)) (at epoch : ℕ) : Type 0 where
@@ -25,17 +22,20 @@ pub record IsShow (words : List (List ℕ)) (epoch : ℕ) : Type 0 where
   pub options : IsOptions show_names rest given
   pub epoch_is : IsNumber (value_of (codes "epoch") given) epoch × (epoch < 2 ^ 32)
 
+-- the word `late` and its options, all of which must be given
+pub record IsLate (words : List (List ℕ)) (reader prefix writer peer : List ℕ) (turns : ℕ) : Type 0 where
+  pub rest : List (List ℕ)
+  pub given : List Given
+  pub words_are : words ≡ codes "late" ∷ rest
+  pub options : IsOptions late_names rest given
+  pub reader_is : IsHex 16 (value_of (codes "reader") given) reader
+  pub prefix_is : IsHex 8 (value_of (codes "prefix") given) prefix
+  pub writer_is : IsHex 4 (value_of (codes "writer") given) writer
+  pub peer_is : IsText (value_of (codes "peer") given) peer
+  pub turns_is : IsCount (value_of (codes "turns") given) turns × (turns < 2 ^ 32)
+
 -- the words after the program's name are this command line
 abbrev pub IsLine : List (List ℕ) → Line → Type 0
 IsLine words (line.List at epoch) = IsList words at epoch
 IsLine words (line.Show epoch) = IsShow words epoch
-
--- what it answers
-abbrev pub answers_of : Line → List ℕ → List ℕ → Status → Type 0
-answers_of (line.List at epoch) = ListAnswers at epoch
-answers_of (line.Show epoch) = ShowAnswers epoch
-
--- the statuses with which it ends
-abbrev pub ends_of : Line → Status → Type 0
-ends_of (line.List at epoch) = ListEnds
-ends_of (line.Show epoch) = ShowEnds
+IsLine words (line.Late reader prefix writer peer turns) = IsLate words reader prefix writer peer turns

@@ -26,6 +26,9 @@ list_names = codes "at" ∷ codes "epoch" ∷ []
 abbrev pub show_names : List (List ℕ)
 show_names = codes "epoch" ∷ []
 
+abbrev pub late_names : List (List ℕ)
+late_names = codes "reader" ∷ codes "prefix" ∷ codes "writer" ∷ codes "peer" ∷ codes "turns" ∷ []
+
 -- the values of the options that the words are
 pub record HasOptions (names words : List (List ℕ)) (m : ArgMatches) : Type 0 where
   pub given : List Given

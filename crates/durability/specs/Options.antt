@@ -1,9 +1,10 @@
 -- The options of a command line.
-use Rattle.std.specs.Prelude.{◌≡◌, ◌≢◌, ◌⊎◌, ◌==◌, ℕ, Bool, true, false, List, [], ◌∷◌, ◌++◌, Some, None, if◌then◌else◌}
+use Rattle.std.specs.Prelude.{◌≡◌, ◌≢◌, ◌⊎◌, ◌<◌, ◌==◌, ℕ, true, false, List, [], ◌∷◌, ◌++◌, length, Some, None, if◌then◌else◌}
 use Rattle.std.specs.declared.option.Option.{Option}
 use Rattle.std.specs.List.{AllByRecursion, list_any}
 use Rattle.std.specs.Str.{bytes_eq}
 use Rattle.std.specs.Fmt.{decimal}
+use Rattle.hex.specs.Hex.{IsBytes, encode_lower}
 
 -- an option's name, and the value that is given to it
 pub record Given : Type 0 where
@@ -58,3 +59,17 @@ value_of name (o ∷ more) = if bytes_eq o.name name then Some o.value else valu
 abbrev pub IsNumber : Option (List ℕ) → ℕ → Type 0
 IsNumber None n = n ≡ 0
 IsNumber (Some text) n = text ≡ decimal n
+
+-- the octets of an option that must be given: so many, each as two hex digits in lower case
+abbrev pub IsHex : ℕ → Option (List ℕ) → List ℕ → Type 0
+IsHex size None octets = ⊥
+IsHex size (Some text) octets = (length octets ≡ size) × IsBytes octets × (text ≡ encode_lower octets)
+
+-- the text of an option that must be given: it is not empty, and begins with no dash
+abbrev pub IsText : Option (List ℕ) → List ℕ → Type 0
+IsText None text = ⊥
+IsText (Some value) text = (value ≡ text) × (text ≢ []) × IsPlain text
+
+-- the number of an option that must be given: it is some, since 0 stands for one that is left out
+abbrev pub IsCount : Option (List ℕ) → ℕ → Type 0
+IsCount value n = IsNumber value n × (0 < n)

@@ -4,7 +4,7 @@ ghost use Rattle.std.specs.Prelude.{◌≡◌, ◌⊎◌, map, string_bytes, IfS
 ghost use Rattle.dur_outside.specs.Causes.{Rose};
 ghost use Rattle.dur_rerun.specs.Command.{HasReason, Arrives, GoesOut, Keeps};
 ghost use Rattle.dur_rerun.specs.Saying.{IsSaid, wrote};
-ghost use Rattle.durability.specs.CommandLine.{IsLine, answers_of, ends_of};
+ghost use Rattle.durability.specs.Calls.{IsOwn, IsOwnLine, answers_of, ends_of};
 ghost use Rattle.durability.specs.Status.{fault_line};
 ghost use Rattle.durability.specs.declared.words.Line.{Line};
 
@@ -16,19 +16,26 @@ use dur_rerun::show::show;
 use dur_rerun::{Ran, Status};
 use std::alloc::Global;
 
-/// Does what a command line asks for.
+/// Does what a command line asks for, where it is one of this call; `late` is `Usage` here.
 fn run<S: Source, R: Rig>(alloc: Global, line: Line, input: &mut S, rig: R) -> Ran<R>
-    ensures reason { HasReason (ends_of line) result.status (S.left input.new)
+    ensures usage { (IsOwn line → ⊥) → result.status ≡ Status.Usage }
+    ensures untouched { result.status ≡ Status.Usage → (input.new ≡ input.old) × (result.rig ≡ rig) }
+    ensures reason { IsOwn line → HasReason (ends_of line) result.status (S.left input.new)
         (S.faults input.old) (S.faults input.new) (R.sink_faults rig) (R.sink_faults result.rig) }
-    ensures arrives { IfSome (S.left input.old) (λ bytes. Arrives (answers_of line) bytes result.status
+    ensures arrives { IsOwn line → IfSome (S.left input.old) (λ bytes. Arrives (answers_of line) bytes result.status
         (S.faults input.old) (S.faults input.new) (R.sink_faults rig) (R.sink_faults result.rig)) }
-    ensures out { IfSome (S.left input.old) (λ bytes.
+    ensures out { IsOwn line → IfSome (S.left input.old) (λ bytes.
         GoesOut (answers_of line) bytes result.status R.tells (R.world rig).now (R.world result.rig).now) }
-    ensures keeps { Keeps R.tells (R.world rig).now (R.world result.rig).now (R.disk_faults rig) (R.disk_faults result.rig) }
+    ensures keeps { Keeps R.tells (R.world rig).now (R.world result.rig).now
+        (R.disk_faults rig) (R.disk_faults result.rig) }
 {
     match line {
         Line::List { at, epoch } => list(alloc, at, epoch, input, rig),
         Line::Show { epoch } => show(alloc, epoch, input, rig),
+        Line::Late { .. } => Ran {
+            status: Status::Usage,
+            rig,
+        },
     }
 }
 
@@ -39,16 +46,16 @@ fn told<R: Rig, E: Sink>(ran: Ran<R>, err: &mut E) -> Ran<R>
     ensures told { E.tells → (Rose (E.sink_faults err.old) (E.sink_faults err.new) → ⊥)
         → (E.world err.new).now ≡ wrote (fault_line ran.status) (E.world err.old).now }
 {
-    say_fault(err, ran.status);
+    say_fault(err, &ran.status);
     ran
 }
 
 /// Does what the words after the program's name ask for, and hands the rig back.
 ///
 /// `list` reads a plan and a capture, and prints what the history that they admit entitles a late
-/// reader to. `show` prints a line for each record of the capture. Other words are `Usage`. The status
-/// says what became of it, and a status other than `Done` is said on `err` in one line; that `err` fails
-/// changes no status.
+/// reader to. `show` prints a line for each record of the capture. Other words are `Usage`; those
+/// of `late` are, too, which is a call of its own. The status says what became of it, and a status other than
+/// `Done` is said on `err` in one line; that `err` fails changes no status.
 pub fn durability<S: Source, R: Rig, E: Sink>(
     alloc: Global,
     words: &[String],
@@ -56,18 +63,23 @@ pub fn durability<S: Source, R: Rig, E: Sink>(
     rig: R,
     err: &mut E,
 ) -> Ran<R>
-    // The words are no command line.
-    ensures usage { result.status ≡ Status.Usage → (line : Line) → IsLine (map string_bytes words.now) line → ⊥ }
-    ensures none { ((line : Line) → IsLine (map string_bytes words.now) line → ⊥) → (result.status ≡ Status.Usage) ⊎ (result.status ≡ Status.OutOfMemory) }
+    // The words are no command line of this call.
+    ensures usage { result.status ≡ Status.Usage
+        → (line : Line) → IsOwnLine (map string_bytes words.now) line → ⊥ }
+    ensures none { ((line : Line) → IsOwnLine (map string_bytes words.now) line → ⊥)
+        → (result.status ≡ Status.Usage) ⊎ (result.status ≡ Status.OutOfMemory) }
     ensures untouched { result.status ≡ Status.Usage → (input.new ≡ input.old) × (result.rig ≡ rig) }
     // They are one.
-    ensures reason { (line : Line) → IsLine (map string_bytes words.now) line → HasReason (ends_of line) result.status (S.left input.new)
+    ensures reason { (line : Line) → IsOwnLine (map string_bytes words.now) line
+        → HasReason (ends_of line) result.status (S.left input.new)
         (S.faults input.old) (S.faults input.new) (R.sink_faults rig) (R.sink_faults result.rig) }
-    ensures arrives { (line : Line) → IsLine (map string_bytes words.now) line → IfSome (S.left input.old) (λ bytes. Arrives (answers_of line) bytes result.status
+    ensures arrives { (line : Line) → IsOwnLine (map string_bytes words.now) line
+        → IfSome (S.left input.old) (λ bytes. Arrives (answers_of line) bytes result.status
         (S.faults input.old) (S.faults input.new) (R.sink_faults rig) (R.sink_faults result.rig)) }
-    ensures out { (line : Line) → IsLine (map string_bytes words.now) line → IfSome (S.left input.old) (λ bytes.
-        GoesOut (answers_of line) bytes result.status R.tells (R.world rig).now (R.world result.rig).now) }
-    ensures keeps { Keeps R.tells (R.world rig).now (R.world result.rig).now (R.disk_faults rig) (R.disk_faults result.rig) }
+    ensures out { (line : Line) → IsOwnLine (map string_bytes words.now) line
+        → IfSome (S.left input.old) (λ bytes. GoesOut (answers_of line) bytes result.status R.tells (R.world rig).now (R.world result.rig).now) }
+    ensures keeps { Keeps R.tells (R.world rig).now (R.world result.rig).now
+        (R.disk_faults rig) (R.disk_faults result.rig) }
     // The line of a fault.
     ensures said { E.tells → IsSaid (fault_line result.status) (E.world err.old).now (E.world err.new).now }
     ensures told { E.tells → (Rose (E.sink_faults err.old) (E.sink_faults err.new) → ⊥)

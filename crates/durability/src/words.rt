@@ -1,26 +1,24 @@
 //! The command line.
 
-ghost use Rattle.std.specs.Prelude.{◌≡◌, ◌↔◌, ◌∷◌, ◌≤◌, ◌<◌, ◌^◌, ℕ, List, [], true, Err, map, option_map, string_bytes, codes, IsTrue, IfOk, IfErr, IfSome, IfNone};
-ghost use Rattle.std.specs.Fmt.{decimal};
-ghost use Rattle.std.specs.List.{list_any};
-ghost use Rattle.std.specs.Str.{bytes_eq};
-ghost use Rattle.clap.specs.Simple.{app_of, with_rule};
-ghost use Rattle.clap.specs.Faults.{is_simple_and_free};
+ghost use Rattle.std.specs.Prelude.{◌≡◌, ◌↔◌, ◌∷◌, Err, map, string_bytes, codes, IsTrue, IfOk};
 ghost use Rattle.clap.specs.Values.{kind_of};
 ghost use Rattle.durability.specs.CommandLine.{IsLine};
-ghost use Rattle.durability.specs.Commands.{new_option, command_of, list_names, show_names, HasOptions, AreNames, words_fault};
-ghost use Rattle.durability.specs.Options.{Given, IsOptions, IsNumber};
+ghost use Rattle.durability.specs.Commands.{words_fault};
 ghost use Rattle.durability.specs.declared.words.Line.{Line as Asked};
 ghost use Rattle.durability.specs.declared.words.WordsFault.TheVariants as fault;
 
+mod commands;
+mod values;
+
+use crate::argument::Argument;
 use clap::error::ErrorKind;
-use clap::{Arg, ArgAction, ArgMatches, Command};
-use dur_base::Ticks;
-use itoa::Buffer;
+use commands::{late_command, list_command, options, show_command};
+use dur_base::{EntityId, Guid, Ticks};
 use std::alloc::{AllocError, Global};
+use values::{argument_of, count_of, number_of, octets_of};
 
 /// A command line: what the words after the program's name ask for.
-#[derive(Clone, Copy, Debug, PartialEq, Eq, Drop)]
+#[derive(Debug, Drop)]
 pub enum Line {
     /// The listing of what a late reader is entitled to.
     List {
@@ -33,6 +31,19 @@ pub enum Line {
     Show {
         /// The epoch of the service.
         epoch: u32,
+    },
+    /// A late reader over a link (DDSI-RTPS 8.4.12), which is a line of the call `late` alone.
+    Late {
+        /// The reader's GUID.
+        reader: Guid,
+        /// The octets with which the service's own prefixes begin.
+        prefix: [u8; 8],
+        /// The entity of the service's writer.
+        writer: EntityId,
+        /// Where the service is heard, which main alone reads.
+        peer: Argument,
+        /// How often it receives at most, from 1.
+        turns: u32,
     },
 }
 
@@ -64,106 +75,6 @@ impl From<clap::Error> for WordsFault {
     }
 }
 
-/// A command without options and without help.
-fn command<'a>(alloc: Global, name: &'a str) -> Command<'a>
-    ensures { app_of result ≡ command_of name.entry.now [] }
-{
-    Command::new(alloc, name)
-        .no_binary_name(true)
-        .disable_help_flag(true)
-}
-
-/// The command with one option more, which has one value.
-fn with_option<'a>(
-    alloc: Global,
-    command: Command<'a>,
-    name: &'a str,
-) -> Result<Command<'a>, AllocError>
-    ensures { IfOk result (λ c. app_of c ≡ with_rule (app_of command.entry) (new_option name.entry.now)) }
-{
-    let option = Arg::new(alloc, name).long(name).action(ArgAction::Set);
-    command.arg(option)
-}
-
-fn list_command<'a>(alloc: Global) -> Result<Command<'a>, AllocError>
-    ensures { IfOk result (λ c. app_of c ≡ command_of (codes "list") list_names) }
-{
-    let command = command(alloc, "list");
-    let command = with_option(alloc, command, "at")?;
-    with_option(alloc, command, "epoch")
-}
-
-fn show_command<'a>(alloc: Global) -> Result<Command<'a>, AllocError>
-    ensures { IfOk result (λ c. app_of c ≡ command_of (codes "show") show_names) }
-{
-    let command = command(alloc, "show");
-    with_option(alloc, command, "epoch")
-}
-
-fn is_dashes(word: &String) -> bool
-    ensures { result ≡ bytes_eq (string_bytes word.now) (codes "--") }
-{
-    word.as_str() == "--"
-}
-
-/// Whether a word ends the options, which no command line has.
-fn has_dashes(words: &[String]) -> bool
-    ensures { result ≡ list_any (λ w. bytes_eq (string_bytes w) (codes "--")) words.now }
-{
-    words.iter().any(|word| is_dashes(word))
-}
-
-/// The options that the words of a command are, each as `--name value` or `--name=value`.
-fn options<'a>(command: Command<'a>, words: &'a [String]) -> Result<ArgMatches<'a>, WordsFault>
-    ensures ok { (name : List ℕ) (names : List (List ℕ)) → app_of command.entry ≡ command_of name names → is_simple_and_free (command_of name names) ≡ true → AreNames names
-        → IfOk result (HasOptions names (map string_bytes words.entry.now)) }
-    ensures usage { (name : List ℕ) (names : List (List ℕ)) → app_of command.entry ≡ command_of name names → is_simple_and_free (command_of name names) ≡ true → AreNames names
-        → result ≡ Err WordsFault.Usage → (given : List Given) → IsOptions names (map string_bytes words.entry.now) given → ⊥ }
-{
-    if has_dashes(words) {
-        return Err(WordsFault::Usage);
-    }
-    let matches = command.try_get_matches_from(words)?;
-    Ok(matches)
-}
-
-/// The number that a text spells, decimal and without leading zeros; or None exactly where it spells none
-/// below 2^64.
-fn number(text: &str) -> Option<u64>
-    ensures some { IfSome result (λ n. (text.now ≡ decimal n) × (n < 2 ^ 64)) }
-    ensures none { IfNone result ((n : ℕ) → n < 2 ^ 64 → text.now ≡ decimal n → ⊥) }
-{
-    match text.parse::<u64>() {
-        Ok(number) => {
-            let mut digits = Buffer::new();
-            if digits.format(number) == text {
-                Some(number)
-            } else {
-                None
-            }
-        }
-        Err(_) => None,
-    }
-}
-
-/// The number of an option, or 0 where it is left out.
-fn number_of(text: Option<&str>, most: u64) -> Result<u64, WordsFault>
-    ensures ok { IfOk result (λ n. IsNumber (option_map (λ t. t.now) text.entry) n × (n ≤ most)) }
-    ensures usage { IfErr result (λ e. (n : ℕ) → IsNumber (option_map (λ t. t.now) text.entry) n → n ≤ most → ⊥) }
-{
-    match text {
-        None => Ok(0),
-        Some(text) => match number(text) {
-            Some(number) => if number <= most {
-                Ok(number)
-            } else {
-                Err(WordsFault::Usage)
-            },
-            None => Err(WordsFault::Usage),
-        },
-    }
-}
-
 /// The line of `list` with these words behind it.
 fn list_line(alloc: Global, words: &[String]) -> Result<Line, WordsFault>
     ensures line { IfOk result (λ line. IsLine (codes "list" ∷ map string_bytes words.now) line) }
@@ -192,6 +103,27 @@ fn show_line(alloc: Global, words: &[String]) -> Result<Line, WordsFault>
     })
 }
 
+/// The line of `late` with these words behind it.
+fn late_line(alloc: Global, words: &[String]) -> Result<Line, WordsFault>
+    ensures line { IfOk result (λ line. IsLine (codes "late" ∷ map string_bytes words.now) line) }
+    ensures usage { result ≡ Err WordsFault.Usage → (line : Asked) → IsLine (codes "late" ∷ map string_bytes words.now) line → ⊥ }
+{
+    let command = late_command(alloc)?;
+    let given = options(command, words)?;
+    let reader = octets_of::<16>(given.get_str("reader"))?;
+    let prefix = octets_of::<8>(given.get_str("prefix"))?;
+    let writer = octets_of::<4>(given.get_str("writer"))?;
+    let peer = argument_of(alloc, given.get_str("peer"))?;
+    let turns = count_of(given.get_str("turns"), u32::MAX as u64)?;
+    Ok(Line::Late {
+        reader: Guid(reader),
+        prefix,
+        writer: EntityId(writer),
+        peer,
+        turns: turns as u32,
+    })
+}
+
 fn is_list_word(word: &String) -> bool
     ensures { IsTrue result ↔ (string_bytes word.now ≡ codes "list") }
 {
@@ -202,6 +134,12 @@ fn is_show_word(word: &String) -> bool
     ensures { IsTrue result ↔ (string_bytes word.now ≡ codes "show") }
 {
     word.as_str() == "show"
+}
+
+fn is_late_word(word: &String) -> bool
+    ensures { IsTrue result ↔ (string_bytes word.now ≡ codes "late") }
+{
+    word.as_str() == "late"
 }
 
 /// The command line that the words after the program's name are; or `Usage` exactly where they are none, or
@@ -215,6 +153,8 @@ pub fn read_words(alloc: Global, words: &[String]) -> Result<Line, WordsFault>
             list_line(alloc, rest)
         } else if is_show_word(word) {
             show_line(alloc, rest)
+        } else if is_late_word(word) {
+            late_line(alloc, rest)
         } else {
             Err(WordsFault::Usage)
         },

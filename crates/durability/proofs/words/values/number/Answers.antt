@@ -1,7 +1,7 @@
-use Rattle.std.proofs.Common.{arith, ◌∙◌, sym, ap, ◌<◌, ◌^◌, ℕ, ◌≡◌}
+use Rattle.std.proofs.Common.{arith, ◌∙◌, sym, ap, ◌≡◌}
 use Rattle.std.specs.Fmt.{decimal}
 use Rattle.durability.proofs.Lines.{numeral, not_same}
-use Rattle.durability.proofs.words.number.Goals as goal
+use Rattle.durability.proofs.words.values.number.Goals as goal
 
 pub returns-in-Err-clause-none : goal.returns-in-Err-clause-none
 returns-in-Err-clause-none c n small is =

@@ -1,6 +1,6 @@
 use Rattle.std.proofs.Common.{arith, ◌∙◌, sym, ◌≡◌, ◌<◌, ◌^◌}
 use Rattle.durability.proofs.Lines.{decimal_once}
-use Rattle.durability.proofs.words.number_of.Goals as goal
+use Rattle.durability.proofs.words.values.number_of.Goals as goal
 
 pub returns-else-number-most-clause-usage : goal.returns-else-number-most-clause-usage
 returns-else-number-most-clause-usage c m is small =

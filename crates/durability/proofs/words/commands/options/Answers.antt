@@ -1,4 +1,4 @@
-use Rattle.std.proofs.Common.{◌∙◌, sym, ap, subst, ◌≡◌, ℕ, List, [], ◌∷◌, map, true}
+use Rattle.std.proofs.Common.{◌∙◌, sym, ap, subst, ◌≡◌, [], ◌∷◌, map, true}
 use Rattle.std.specs.Prelude.{string_bytes}
 use Rattle.std.specs.Str.{bytes_eq}
 use Rattle.std.proofs.lemmas.Result.{err_from_is_err_and}
@@ -7,7 +7,7 @@ use Rattle.clap.specs.Kinds.{HasKind}
 use Rattle.clap.specs.Faults.{fault_of, is_simple_and_free}
 use Rattle.clap.proofs.WalkLemmas.{list_any-map}
 use Rattle.durability.proofs.Lines.{dashes_refused, error_refused, has_options, simple_of}
-use Rattle.durability.proofs.words.options.Goals as goal
+use Rattle.durability.proofs.words.commands.options.Goals as goal
 
 pub returns-then-has_dashes-clause-usage : goal.returns-then-has_dashes-clause-usage
 returns-then-has_dashes-clause-usage c name names app simple ok is given o =
