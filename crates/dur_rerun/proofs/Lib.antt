@@ -1,8 +1,10 @@
 pub mod Admitting
+pub mod Checks
 pub mod Commands
 pub mod Handing
 pub mod LateRuns
 pub mod Lists
+pub mod Looked
 pub mod OneInput
 pub mod OneList
 pub mod OneShow

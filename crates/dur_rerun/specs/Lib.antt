@@ -1,4 +1,5 @@
 pub mod Admission
+pub mod Check
 pub mod Command
 pub mod Files
 pub mod Input

@@ -4,6 +4,7 @@
 #![tactic(auto)]
 
 mod admit;
+pub mod check;
 mod input;
 pub mod late;
 pub mod list;

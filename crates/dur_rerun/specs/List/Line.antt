@@ -22,10 +22,14 @@ payload_text [] = 45 ∷ []
 payload_text (b ∷ bytes) = encode_lower (b ∷ bytes)
 
 -- original writer, original number, key, `write` or `dispose`, stamp and payload
-unfoldable pub change_text : List ℕ → ℕ → Sample → List ℕ
-change_text original number s =
+unfoldable pub change_words : List ℕ → ℕ → Sample → List ℕ
+change_words original number s =
     encode_lower original ++ 32 ∷ [] ++ decimal number ++ 32 ∷ [] ++ encode_lower s.key
-    ++ act_text s.act ++ decimal s.stamp ++ 32 ∷ [] ++ payload_text s.payload ++ 10 ∷ []
+    ++ act_text s.act ++ decimal s.stamp ++ 32 ∷ [] ++ payload_text s.payload
+
+-- the end of a line behind them
+unfoldable pub change_text : List ℕ → ℕ → Sample → List ℕ
+change_text original number s = change_words original number s ++ 10 ∷ []
 
 -- the topic before these words
 unfoldable pub list_line : List ℕ → Change → List ℕ

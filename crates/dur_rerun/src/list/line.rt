@@ -2,7 +2,7 @@
 
 ghost use Rattle.std.specs.Prelude.{◌≡◌, ◌∷◌, ◌++◌, [], OnOk};
 ghost use Rattle.hex.specs.Hex.{encode_lower};
-ghost use Rattle.dur_rerun.specs.List.Line.{act_text, payload_text, change_text, list_line, topic_text};
+ghost use Rattle.dur_rerun.specs.List.Line.{act_text, payload_text, change_words, change_text, list_line, topic_text};
 
 use crate::text::{append, append_number};
 use dur_base::{Act, Guid, Number, OutOfMemory, Sample};
@@ -36,6 +36,28 @@ fn append_payload(alloc: Global, out: &mut Vec<u8>, octets: &[u8]) -> Result<(),
     }
 }
 
+/// Appends what a line says of a change behind its topic.
+#[tactic(auto, unfolding(crate::specs::List::Line::change_words))]
+pub fn append_change_words(
+    alloc: Global,
+    out: &mut Vec<u8>,
+    original: Guid,
+    number: Number,
+    sample: &Sample,
+) -> Result<(), OutOfMemory>
+    ensures { OnOk result (out.new.items ≡ out.old.items ++ change_words original number sample.now) }
+{
+    append_hex(alloc, out, &original.0)?;
+    append(out, b" ")?;
+    append_number(out, number.get())?;
+    append(out, b" ")?;
+    append_hex(alloc, out, &sample.key.0)?;
+    append_act(out, sample.act)?;
+    append_number(out, sample.stamp.0)?;
+    append(out, b" ")?;
+    append_payload(alloc, out, sample.payload.as_slice())
+}
+
 /// Appends what a line says of a change behind its topic, and the line's end.
 #[tactic(auto, unfolding(crate::specs::List::Line::change_text))]
 pub fn append_words(
@@ -47,15 +69,7 @@ pub fn append_words(
 ) -> Result<(), OutOfMemory>
     ensures { OnOk result (out.new.items ≡ out.old.items ++ change_text original number sample.now) }
 {
-    append_hex(alloc, out, &original.0)?;
-    append(out, b" ")?;
-    append_number(out, number.get())?;
-    append(out, b" ")?;
-    append_hex(alloc, out, &sample.key.0)?;
-    append_act(out, sample.act)?;
-    append_number(out, sample.stamp.0)?;
-    append(out, b" ")?;
-    append_payload(alloc, out, sample.payload.as_slice())?;
+    append_change_words(alloc, out, original, number, sample)?;
     append(out, b"\n")
 }
 
