@@ -13,6 +13,7 @@ pub mod Ledgers
 pub mod Turning
 pub mod Answering
 pub mod Calls
+pub mod Lookups
 pub mod Passing
 pub mod Placing
 pub mod Going

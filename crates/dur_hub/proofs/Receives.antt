@@ -1,5 +1,5 @@
 -- A `receive` is one legal event.
-use Rattle.std.proofs.Common.{◌≡◌, inl, inr, ℕ, ◌+◌, ◌≤◌, ◌<◌, List, [], ◌∷◌, ◌++◌, length, take, map, refl, ap, subst, ◌∙◌, sym, Bool, true, false, ◌||◌, arith, eq-eqb}
+use Rattle.std.proofs.Common.{◌≡◌, inl, inr, ℕ, ◌+◌, ◌≤◌, List, [], ◌∷◌, ◌++◌, length, take, map, refl, ap, subst, ◌∙◌, sym, Bool, true, false, ◌||◌, arith, eq-eqb}
 use Rattle.std.specs.Prelude.{max, ◌==◌, ◌%◌, ◌^◌}
 use Rattle.std.proofs.lemmas.Bool.{ne_eqb}
 use Rattle.dur_base.specs.declared.entry.Entry.TheVariants.{Lost}
@@ -26,7 +26,7 @@ use Rattle.dur_hub.specs.Handed.{acks_of}
 use Rattle.dur_hub.specs.Legal.{IsLeft, facts_of}
 use Rattle.dur_hub.specs.Lines.{LineFits, Pairs, LinesFit}
 use Rattle.dur_hub.specs.Hearings.{refusals_of, HearsAll}
-use Rattle.dur_hub.specs.Hubs.{StandsAt, HubAt, Adds}
+use Rattle.dur_hub.specs.Hubs.{StandsAt, Adds}
 use Rattle.dur_hub.specs.Looks.{StepsLease}
 use Rattle.dur_hub.specs.Answers.{TellsReceive, Answers, IsStopped, Begins, AnswersFacts}
 use Rattle.dur_hub.proofs.Guids.{start_extend}

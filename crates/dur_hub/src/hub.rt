@@ -14,13 +14,14 @@ use crate::ledger::Ledger;
 use crate::left_behind::{Leaver, left_behind};
 use crate::line::{Line, lines_of};
 use crate::notes::Notes;
+use crate::places::index_of;
 use crate::receiving::hear_all;
 use dur_base::{Fact, Guid, List, OutOfMemory, Ticks, later};
 use dur_qos::Plan;
 use dur_store::Store;
 use dur_view::View;
 use std::alloc::Global;
-use std::collections::VecDeque;
+use std::collections::{HashMap, VecDeque};
 
 /// One hub. Contracts tell it by the lists of calls that it stands for (`Stands`).
 #[derive(Drop)]
@@ -29,6 +30,8 @@ pub struct Hub {
     pub(crate) ledger: Ledger,
     /// The writers of the plan, in its order.
     pub(crate) lines: Vec<Line>,
+    /// The places of the lines by the GUIDs of their writers.
+    pub(crate) index: HashMap<[u8; 16], usize>,
     /// The store's place of each topic of the plan.
     pub(crate) places: List<u32>,
     /// The last moment that was used.
@@ -73,6 +76,7 @@ fn answer(notes: Notes, handled: usize, stopped: bool) -> Received
 fn answer_facts(
     ledger: &mut Ledger,
     lines: &mut [Line],
+    index: &HashMap<[u8; 16], usize>,
     alloc: Global,
     moment: Ticks,
     facts: List<Fact>,
@@ -84,7 +88,7 @@ fn answer_facts(
         acks: Vec::new(alloc),
         refused: Vec::new(alloc),
     };
-    let heard = hear_all(ledger, lines, moment, facts.into_vec(), &mut notes);
+    let heard = hear_all(ledger, lines, index, moment, facts.into_vec(), &mut notes);
     answer(notes, heard.handled, heard.stopped)
 }
 
@@ -111,10 +115,12 @@ impl Hub {
         let store = Store::of_view(alloc, &plan, view)?;
         let places = store.places(&plan)?;
         let lines = lines_of(alloc, &plan, &store)?;
+        let index = index_of(alloc, &lines)?;
         Ok(Hub {
             plan,
             ledger: Ledger::new(alloc, store),
             lines,
+            index,
             places,
             moment,
             begun: false,
@@ -149,7 +155,14 @@ impl Hub {
         requires { AreGood facts }
         ensures { AnswersFacts self.old facts result self.new }
     {
-        let reply = answer_facts(&mut self.ledger, &mut self.lines, alloc, self.moment, facts);
+        let reply = answer_facts(
+            &mut self.ledger,
+            &mut self.lines,
+            &self.index,
+            alloc,
+            self.moment,
+            facts,
+        );
         self.acks = self.acks.wrapping_add(reply.acks.len() as u64);
         self.refused = self.refused.wrapping_add(reply.refused.len() as u64);
         reply

@@ -1,5 +1,5 @@
 use Rattle.std.proofs.Common.{arith, ap, length}
-use Rattle.dur_hub.proofs.Replaying.{places_many, changes_told}
+use Rattle.dur_hub.proofs.Replaying.{places_many}
 use Rattle.dur_hub.proofs.hub.Hub.changes.Goals as goal
 
 pub returns-in-None : goal.returns-in-None

@@ -1,4 +1,4 @@
-use Rattle.std.proofs.Common.{◌∙◌, refl, ap}
+use Rattle.std.proofs.Common.{refl}
 use Rattle.dur_view.specs.Full.{full}
 use Rattle.dur_view.specs.History.{Start}
 use Rattle.dur_hub.proofs.Declared.{full_opens}
