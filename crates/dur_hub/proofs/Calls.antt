@@ -60,6 +60,7 @@ stops old = one_call old (record old { stopped = true }) call.Stop (λ r here. (
     places = here.places;
     moment = here.moment;
     begun = here.begun;
+    due = here.due;
     given = here.given;
     leaving = here.leaving;
     acks = here.acks;
@@ -85,6 +86,7 @@ leaves old working is = one_call old (record old { working = working }) call.Lea
     places = here.places;
     moment = here.moment;
     begun = here.begun;
+    due = here.due;
     given = here.given;
     leaving = here.leaving;
     acks = here.acks;
@@ -123,6 +125,7 @@ taken_at old q r n e b here legal is queued = subst (λ k. HubAt (with_queue old
       places = here.places;
       moment = here.moment;
       begun = here.begun;
+      due = here.due;
       given = here.given;
       leaving = here.leaving;
       acks = here.acks;
@@ -215,6 +218,7 @@ marks old new upto count ls ls' lines lines' pass count_is is start log st legal
       places = here.places;
       moment = here.moment;
       begun = here.begun;
+      due = here.due;
       given = here.given;
       leaving = here.leaving;
       acks = here.acks;

@@ -17,6 +17,7 @@ pub mod Lookups
 pub mod Passing
 pub mod Placing
 pub mod Going
+pub mod Dues
 pub mod Leasing
 pub mod LeftBehind
 pub mod Losing

@@ -1,5 +1,5 @@
 -- A hub stands for the run that has no call yet.
-use Rattle.std.proofs.Common.{◌≡◌, ℕ, zero, suc, ◌+◌, ◌<◌, List, [], ◌∷◌, ◌++◌, length, take, map, get_or, refl, ap, subst, ◌∙◌, sym, Bool, false, arith}
+use Rattle.std.proofs.Common.{◌≡◌, ℕ, zero, suc, ◌+◌, ◌<◌, List, [], ◌∷◌, ◌++◌, length, take, map, get_or, refl, ap, subst, ◌∙◌, sym, Bool, true, false, arith}
 use Rattle.std.specs.Prelude.{slice_get, unwrap_or}
 use Rattle.std.specs.List.{AllByRecursion}
 use Rattle.std.proofs.lemmas.List.{take_more, map-append}
@@ -118,6 +118,7 @@ stands_opened plan v working hub may plan_is ledger lines places leaving moment 
         subst (λ l. PlacesFit plan (full plan v).topics l) (sym places) (places_fit plan v may);
     moment = moment;
     begun = begun;
+    due = λ yes1. absurd (let q : false ≡ true = yes1 in cc);
     given = given;
     leaving =
         λ no1. leaving

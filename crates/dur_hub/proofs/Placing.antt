@@ -27,11 +27,14 @@ use Rattle.dur_hub.specs.Steps.{speaker, HearsBy, LegalStep, spoken, with_speake
 use Rattle.dur_hub.specs.Handed.{ack_of}
 use Rattle.dur_hub.specs.GoodRuns.{GoodWriter, Out, Apart}
 use Rattle.dur_hub.specs.Lines.{LineFits, LinesFit, step_of, Speaks}
+use Rattle.dur_hub.specs.Looks.{is_late}
+use Rattle.dur_hub.specs.Dues.{is_after, AreDue}
 use Rattle.dur_hub.specs.Hubs.{StandsAt}
 use Rattle.dur_hub.specs.Places.{IsPlaceOf, HasNone}
 use Rattle.dur_hub.specs.Hearings.{address_of, is_to, refusal_at, writer_in, OneStep, HearsTo, hearing_of}
 use Rattle.dur_hub.proofs.Guids.{differs, start_extend}
 use Rattle.dur_hub.proofs.Lookups.{other_place, none_of}
+use Rattle.dur_hub.proofs.Dues.{neither, with_due, line_due}
 use Rattle.dur_hub.proofs.Stored.{durable_extend}
 use Rattle.dur_hub.proofs.Speakers.{speaker_in, speaker_good, with_none}
 use Rattle.dur_hub.proofs.GoodCalls.{good_step}
@@ -203,13 +206,31 @@ pub one_step : (l : Ledger) (ls : List Line) (m i : ℕ) (f : Fact) (a : Address
     → mid.acks.items ≡ notes.acks.items → mid.refused.items ≡ notes.refused.items
     → notes'.acks.items ≡ mid.acks.items ++ ack_of x.ack
     → notes'.refused.items ≡ mid.refused.items ++ refusal_at a.writer x.end
+    → ((now : ℕ) → is_after notes'.due now ≡ (is_after notes.due now || is_late line' now))
     → OneStep l ls m f notes l' (set ls i line') notes' (step_of f speaks.entries x)
-one_step l ls m i f a x notes mid l' line line' notes' fine by place own at speaks acks0 refused0 acks refused = record {
+one_step l ls m i f a x notes mid l' line line' notes' fine by place own at speaks acks0 refused0 acks refused due = record {
   fact = refl;
   acks = acks ∙ ap (λ k. k ++ ack_of x.ack) acks0;
   refused =
       refused ∙ ap (λ k. k ++ refusal_at a.writer x.end) refused0
       ∙ ap (λ o. notes.refused.items ++ refusal_at (writer_in o) x.end) (sym by);
+  due = λ r st is all.
+      let p =
+      picks r.plan r.history r.durable f a by i ls r.writers line st.lines st.good.apart place
+      (subst (λ q. is_to q a ≡ true) at own) in
+      let w : Writer = p.writer in
+      let step : Step = step_of f speaks.entries x in
+      let fits : LineFits r.plan r.history r.durable line w =
+      subst (λ q. LineFits r.plan r.history r.durable q w) (sym at) p.fits in
+      let good : GoodWriter r.history r.plan w =
+      speaker_good r.plan f r.history r.writers w st.good.writers p.found in
+      let b = speaks.holds r w st.ledger fits good st.good.history st.good.early is in
+      let ends : (now : ℕ) → is_after notes'.due now ≡ false
+      → (is_after notes.due now ≡ false) × (is_late line' now ≡ false) =
+      λ now no1. neither (is_after notes.due now) (is_late line' now) (sym (due now) ∙ no1) in
+      with_due r.plan f notes'.due notes.due (spoken r step) r.writers w p.found
+      (λ now no1. (ends now no1).0) all
+      (line_due r.plan (r.history +> speaks.entries) r.durable notes'.due line' (spoken r step w) b.2 (λ now no1. (ends now no1).1));
   holds = λ r st is.
       let d : ℕ = r.durable in
       let es : List Entry = speaks.entries in
@@ -249,6 +270,9 @@ no_step l ls m f notes fine out = record {
   fact = refl;
   acks = sym (append-nil notes.acks.items);
   refused = sym (append-nil notes.refused.items);
+  due = λ r st is all.
+      let step : Step = record { fact = f; entries = []; end = Waits; ack = None } in
+      subst (AreDue notes.due) (sym (with_none r.plan f (spoken r step) r.writers (out r st))) all;
   holds = λ r st is.
       let step : Step = record { fact = f; entries = []; end = Waits; ack = None } in
       let legal : LegalStep r step = subst (HearsBy r step) (sym (out r st)) (refl, refl, refl) in (

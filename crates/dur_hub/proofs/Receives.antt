@@ -1,6 +1,7 @@
 -- A `receive` is one legal event.
-use Rattle.std.proofs.Common.{◌≡◌, inl, inr, ℕ, ◌+◌, ◌≤◌, List, [], ◌∷◌, ◌++◌, length, take, map, refl, ap, subst, ◌∙◌, sym, Bool, true, false, ◌||◌, arith, eq-eqb}
-use Rattle.std.specs.Prelude.{max, ◌==◌, ◌%◌, ◌^◌}
+use Rattle.std.proofs.Common.{◌≡◌, inl, inr, ℕ, ◌+◌, ◌≤◌, List, [], ◌∷◌, ◌++◌, length, take, map, refl, ap, subst, ◌∙◌, sym, Bool, true, false, cond, ◌||◌, arith, eq-eqb}
+use Rattle.std.specs.List.{list_any}
+use Rattle.std.specs.Prelude.{filter, max, ◌==◌, ◌%◌, ◌^◌}
 use Rattle.std.proofs.lemmas.Bool.{ne_eqb}
 use Rattle.dur_base.specs.declared.entry.Entry.TheVariants.{Lost}
 use Rattle.dur_base.specs.declared.fact.Fact.{Fact}
@@ -18,7 +19,7 @@ use Rattle.dur_hub.specs.declared.notes.Notes.{Notes}
 use Rattle.dur_hub.specs.declared.receiving.Heard.{Heard}
 use Rattle.dur_hub.specs.declared.reply.Received.{Received}
 use Rattle.dur_hub.specs.Runs.{Writer, Run}
-use Rattle.dur_hub.specs.Leases.{leavers, heard_now, after_lease, at_moment}
+use Rattle.dur_hub.specs.Leases.{is_overdue, leavers, lose, heard_now, after_lease, at_moment}
 use Rattle.dur_hub.specs.LeftBehind.{AreLost}
 use Rattle.dur_hub.specs.Replays.{PlacesFit}
 use Rattle.dur_hub.specs.Steps.{after_step, after_steps}
@@ -27,12 +28,15 @@ use Rattle.dur_hub.specs.Legal.{IsLeft, facts_of}
 use Rattle.dur_hub.specs.Lines.{LineFits, Pairs, LinesFit}
 use Rattle.dur_hub.specs.Hearings.{refusals_of, HearsAll}
 use Rattle.dur_hub.specs.Hubs.{StandsAt, Adds}
-use Rattle.dur_hub.specs.Looks.{StepsLease}
+use Rattle.dur_hub.specs.Looks.{is_late, StepsLease}
+use Rattle.dur_hub.specs.Dues.{is_after, AreDue}
 use Rattle.dur_hub.specs.Answers.{TellsReceive, Answers, IsStopped, Begins, AnswersFacts}
 use Rattle.dur_hub.proofs.Guids.{start_extend}
 use Rattle.dur_hub.proofs.GoodCalls.{good_moment}
 use Rattle.dur_hub.proofs.LeftBehind.{leaving_moment}
 use Rattle.dur_hub.proofs.Counting.{acks_steps, refused_steps}
+use Rattle.dur_hub.proofs.Dues.{lines_due, nobody_overdue}
+use Rattle.dur_hub.proofs.Leasing.{guid_of, leavers_begun, stands_leased}
 use Rattle.dur_hub.proofs.Going.{moment_steps}
 use Rattle.dur_hub.proofs.Calls.{one_call}
 
@@ -67,7 +71,7 @@ pub answers : (l : Ledger) (ls : List Line) (m : ℕ) (facts : List Fact) (notes
     → notes0.acks.items ≡ [] → notes0.refused.items ≡ []
     → (reply.acks ≡ notes.acks.items) × (reply.refused ≡ notes.refused.items)
     × (reply.handled ≡ heard.handled) × (reply.stopped ≡ heard.stopped)
-    → Answers l ls m facts reply l' ls'
+    → Answers l ls notes0.due m facts reply l' ls' notes.due
 answers l ls m facts notes0 notes heard reply l' ls' so acks0 refused0 same = record {
   steps = so.steps;
   cut = so.cut;
@@ -81,6 +85,7 @@ answers l ls m facts notes0 notes heard reply l' ls' so acks0 refused0 same = re
   };
   whole = so.whole;
   holds = so.holds;
+  until = so.due;
 }
 
 begun_steps : (r : Run) (ss : List Step) → (after_steps r ss).begun ≡ r.begun
@@ -143,8 +148,9 @@ pub begins : (old new : Hub) (m used : ℕ) (done : Bool) (ls ls' : List Line)
     → StepsLease old.ledger ls old.leaving.items used old.begun done new.ledger ls' new.leaving.items
     → SameCounts old new → new.moment ≡ used → new.begun ≡ (old.begun || done)
     → new.given ≡ old.given → new.acks ≡ old.acks → new.refused ≡ old.refused
+    → ((now : ℕ) → is_after new.due now ≡ list_any (λ line. is_late line now) new.lines.items)
     → Begins old m done new
-begins old new m used done ls ls' used_is lines lines2 lease same moment begun given acks refused = record {
+begins old new m used done ls ls' used_is lines lines2 lease same moment begun given acks refused ends = record {
   count = lease.count;
   holds = λ r here.
       let r1 : Run = at_moment m r in
@@ -171,6 +177,9 @@ begins old new m used done ls ls' used_is lines lines2 lease same moment begun g
           begun =
               begun ∙ ap (λ x. x || done) here.begun
               ∙ ap (λ x. r.begun || x) (sym (lost_done done n (length (leavers r1)) b.0));
+          due =
+              λ yes1. lines_due r2.plan r2.history r2.durable new.due ls' r2.writers b.1.lines
+              (λ now no1. sym (ends now ∙ ap (list_any (λ line. is_late line now)) lines2) ∙ no1);
           given = ap (λ v. v.items) given ∙ here.given;
           leaving = b.2;
           acks = acks ∙ here.acks;
@@ -181,10 +190,50 @@ begins old new m used done ls ls' used_is lines lines2 lease same moment begun g
       );
 }
 
+-- the lease step of a call at a moment by which no lease ended
+pub begins_quietly : (old : Hub) (m used : ℕ) → used ≡ max old.moment m → old.begun ≡ true
+    → is_after old.due used ≡ false → Begins old m true (record old { moment = used })
+begins_quietly old m used used_is begun quiet = record {
+  count = 0;
+  holds = λ r here.
+      let r1 : Run = at_moment m r in
+      let is : r1.moment ≡ used = sym (used_is ∙ ap (λ n. max n m) here.moment) in
+      let all : r.begun ≡ true = sym here.begun ∙ begun in
+      let due : AreDue old.due r.writers = here.due all in
+      let none : filter (is_overdue r1.moment) r.writers ≡ [] =
+      ap (λ k. filter (is_overdue k) r.writers) is ∙ nobody_overdue old.due used r.writers quiet due in
+      let gone : length (leavers r1) ≡ 0 =
+      ap length (leavers_begun r1 all ∙ ap (map guid_of) none) in
+      let st : StandsAt old.ledger old.lines.items (after_lease r1 0) =
+      stands_leased old.ledger old.lines.items r1 0 all (good_moment r m here.at.good) here.at.ledger here.at.lines in
+      let n0 : (0 == length (leavers r1)) ≡ true = eq-eqb 0 (length (leavers r1)) (sym gone) in
+      let went : (after_lease r1 0).begun ≡ true =
+      ap (λ b. b || (0 == length (leavers r1))) all in (
+        sym gone,
+        record {
+          at = st;
+          plan = here.plan;
+          places = here.places;
+          moment = sym is;
+          begun = begun ∙ sym went;
+          due =
+              λ yes1. subst
+              (λ b. AreDue old.due (cond b (lose r1.moment 0 r.writers) (map (heard_now r1.moment) r.writers)))
+              (sym all) due;
+          given = here.given;
+          leaving = λ no1. absurd (let q = sym went ∙ no1 in cc);
+          acks = here.acks;
+          refused = here.refused;
+          working = here.working;
+          stopped = here.stopped;
+        },
+      );
+}
+
 -- the facts of a call
 pub answers_facts : (old new : Hub) (facts : List Fact) (reply : Received) (ls ls' : List Line)
     → ls ≡ old.lines.items → new.lines.items ≡ ls'
-    → Answers old.ledger ls old.moment facts reply new.ledger ls'
+    → Answers old.ledger ls old.due old.moment facts reply new.ledger ls' new.due
     → SameCounts old new → new.moment ≡ old.moment → new.begun ≡ old.begun → new.given ≡ old.given
     → new.acks ≡ (old.acks + length reply.acks) % 2 ^ 64
     → new.refused ≡ (old.refused + length reply.refused) % 2 ^ 64 → AnswersFacts old facts reply new
@@ -207,6 +256,9 @@ answers_facts old new facts reply ls ls' lines lines2 a same moment begun given 
               same.places (plan_steps r ss) (places_steps r ss) here.places;
           moment = moment ∙ here.moment ∙ sym (moment_steps r ss);
           begun = begun ∙ here.begun ∙ sym (begun_steps r ss);
+          due =
+              λ yes1. a.until r (subst (λ k. StandsAt old.ledger k r) (sym lines) here.at)
+              (sym here.moment) (here.due all);
           given = ap (λ v. v.items) given ∙ here.given ∙ sym (given_steps r ss);
           leaving = λ no1. absurd (let q = begun_steps r ss ∙ all in cc);
           acks = omega (arith, acks, here.acks, acks_steps r ss, ap length a.tells.acks);

@@ -95,6 +95,7 @@ given_one mid new r g is given here = subst (λ k. HubAt k (record r { given = r
       places = here.places;
       moment = here.moment;
       begun = here.begun;
+      due = here.due;
       given = given ∙ ap (λ l. l ++ g ∷ []) here.given;
       leaving = here.leaving;
       acks = here.acks;
@@ -113,6 +114,7 @@ same_given mid new r is given here = subst (λ k. HubAt k r) (sym is) (
       places = here.places;
       moment = here.moment;
       begun = here.begun;
+      due = here.due;
       given = given ∙ here.given;
       leaving = here.leaving;
       acks = here.acks;

@@ -14,6 +14,7 @@ pub mod Workers
 pub mod Queues
 pub mod Drains
 pub mod Lines
+pub mod Dues
 pub mod Places
 pub mod Hubs
 pub mod Openings

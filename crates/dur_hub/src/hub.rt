@@ -9,6 +9,7 @@ ghost use Rattle.dur_hub.specs.Answers.{Answers, TellsReceive, Begins, AnswersFa
 ghost use Rattle.rtps_message.specs.Facts.{AreGood};
 
 use crate::Received;
+use crate::due::{first_end, is_after};
 use crate::lease::lease_step;
 use crate::ledger::Ledger;
 use crate::left_behind::{Leaver, left_behind};
@@ -38,6 +39,8 @@ pub struct Hub {
     pub(crate) moment: Ticks,
     /// Whether the first lease step is done.
     pub(crate) begun: bool,
+    /// Up to when no lease ends, in ticks, once it is. None: none ever does.
+    pub(crate) due: Option<u128>,
     /// The readers to whom a snapshot was given.
     pub(crate) given: Vec<Guid>,
     /// Those that the first lease step still has to lose.
@@ -63,7 +66,7 @@ fn answer(notes: Notes, handled: usize, stopped: bool) -> Received
     ensures { (result.acks ≡ notes.acks.items) × (result.refused ≡ notes.refused.items)
         × (result.handled ≡ handled) × (result.stopped ≡ stopped) }
 {
-    let Notes { acks, refused } = notes;
+    let Notes { acks, refused, .. } = notes;
     Received {
         acks: List::of(acks),
         refused: List::of(refused),
@@ -77,18 +80,21 @@ fn answer_facts(
     ledger: &mut Ledger,
     lines: &mut [Line],
     index: &HashMap<[u8; 16], usize>,
+    due: &mut Option<u128>,
     alloc: Global,
     moment: Ticks,
     facts: List<Fact>,
 ) -> Received
     requires { AreGood facts }
-    ensures { Answers ledger.old lines.old moment facts result ledger.new lines.new }
+    ensures { Answers ledger.old lines.old due.old moment facts result ledger.new lines.new due.new }
 {
     let mut notes = Notes {
         acks: Vec::new(alloc),
         refused: Vec::new(alloc),
+        due: *due,
     };
     let heard = hear_all(ledger, lines, index, moment, facts.into_vec(), &mut notes);
+    *due = notes.due;
     answer(notes, heard.handled, heard.stopped)
 }
 
@@ -124,6 +130,7 @@ impl Hub {
             places,
             moment,
             begun: false,
+            due: None,
             given: Vec::new(alloc),
             leaving,
             acks: 0,
@@ -133,12 +140,15 @@ impl Hub {
         })
     }
 
-    /// The lease step at the moment that the call uses. False: there was no memory for one of its losses.
+    /// The lease step at the moment that the call uses, where a lease may have ended by then. False: there was no memory for one of its losses.
     pub(crate) fn begin(&mut self, moment: Ticks) -> bool
         ensures { Begins self.old moment result self.new }
     {
         let used = later(self.moment, moment);
         self.moment = used;
+        if self.begun && !is_after(self.due, used) {
+            return true;
+        }
         let whole = lease_step(
             &mut self.ledger,
             &mut self.lines,
@@ -146,6 +156,7 @@ impl Hub {
             &mut self.leaving,
             used,
         );
+        self.due = first_end(&self.lines);
         self.begun = either(self.begun, whole);
         whole
     }
@@ -159,6 +170,7 @@ impl Hub {
             &mut self.ledger,
             &mut self.lines,
             &self.index,
+            &mut self.due,
             alloc,
             self.moment,
             facts,
