@@ -23,6 +23,8 @@ use Rattle.dur_hub.specs.Runs.{Writer, first_writer, opening}
 use Rattle.dur_hub.specs.LeftBehind.{left_from}
 use Rattle.dur_hub.specs.Openings.{MayOpen, WriterStands}
 use Rattle.dur_hub.specs.Replays.{PlacesFit}
+use Rattle.dur_hub.specs.Places.{guids, found, IsIndex}
+use Rattle.dur_hub.proofs.Lookups.{guids_fit}
 use Rattle.dur_hub.specs.Lines.{LineFits, Pairs, LinesFit}
 use Rattle.dur_hub.specs.Queues.{LedgerAt}
 use Rattle.dur_hub.specs.Hubs.{Stands}
@@ -100,12 +102,13 @@ lines_more plan v ls ws i line w fit one lt is =
 pub stands_opened : (plan : Plan) (v : View) (working : ℕ) (hub : Hub) → MayOpen plan v
     → hub.plan ≡ plan → LedgerAt hub.ledger (Start (full plan v)) 0 0
     → (AllByRecursion (WriterStands plan (full plan v)) plan.writers → LinesFit plan (Start (full plan v)) 0 hub.lines.items (map (first_writer (full plan v)) plan.writers))
+    → IsIndex (found hub.index) (guids hub.lines.items)
     → hub.places ≡ places_of plan (full plan v).topics
     → hub.leaving.items ≡ left_from plan v 0 v.writers
     → hub.moment ≡ v.last → hub.begun ≡ false → hub.given.items ≡ [] → hub.acks ≡ 0
     → hub.refused ≡ 0 → hub.working ≡ working → hub.stopped ≡ false
     → Stands (opening plan v working) [] hub
-stands_opened plan v working hub may plan_is ledger lines places leaving moment begun given acks refused working_is stopped = record {
+stands_opened plan v working hub may plan_is ledger lines index places leaving moment begun given acks refused working_is stopped = record {
   legal = tt;
   at = record {
     at = record {
@@ -114,6 +117,8 @@ stands_opened plan v working hub may plan_is ledger lines places leaving moment 
       good = good_opening plan v working may;
     };
     plan = plan_is;
+    index =
+        subst (IsIndex (found hub.index)) (guids_fit plan (Start (full plan v)) 0 hub.lines.items (map (first_writer (full plan v)) plan.writers) (lines (writers_stand plan v may))) index;
     places =
         subst (λ l. PlacesFit plan (full plan v).topics l) (sym places) (places_fit plan v may);
     moment = moment;

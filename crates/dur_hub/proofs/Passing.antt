@@ -17,7 +17,7 @@ use Rattle.dur_view.specs.Stored.{stored, durable_part}
 use Rattle.dur_hub.specs.Runs.{Writer}
 use Rattle.dur_hub.specs.GoodRuns.{Out, Apart}
 use Rattle.dur_hub.specs.Lines.{LineFits, Pairs, LinesFit}
-use Rattle.dur_hub.specs.Places.{IsPlaceOf, HasNone}
+use Rattle.dur_hub.specs.Places.{guids, IsPlaceOf, HasNone}
 use Rattle.dur_hub.specs.Queues.{passed_by, joined, AllFull, Queued}
 use Rattle.rel_reader.specs.Windows.{Fits}
 use Rattle.dur_hub.specs.Marks.{IsAt, passed_number}
@@ -146,7 +146,7 @@ passed_writer (Lost m u) = refl
 module _ (plan : Plan) (h : History) (d : ℕ) (e : Entry) (at : IsAt (stored h) d e) where
   -- the lines of other writers
   lines_kept : (ls : List Line) (ws : List Writer) → LinesFit plan h d ls ws
-      → HasNone ls (writer_of e) → LinesFit plan h (d + 1) ls ws
+      → HasNone (guids ls) (writer_of e) → LinesFit plan h (d + 1) ls ws
   lines_kept [] [] fit none = tt
   lines_kept [] (w ∷ ws) fit none = fit
   lines_kept (l ∷ ls) [] fit none = fit
@@ -155,7 +155,7 @@ module _ (plan : Plan) (h : History) (d : ℕ) (e : Entry) (at : IsAt (stored h)
 
   -- the line of the entry's writer, and the others
   lines_put : (i : ℕ) (ls : List Line) (ws : List Writer) (x line : Line) → Apart ws
-      → LinesFit plan h d ls ws → IsPlaceOf ls i (writer_of e)
+      → LinesFit plan h d ls ws → IsPlaceOf (guids ls) i (writer_of e)
       → ((w : Writer) → LineFits plan h d (get_or ls i x) w → LineFits plan h (d + 1) line w)
       → LinesFit plan h (d + 1) (set ls i line) ws
   lines_put i [] ws x line apart fit here turn = absurd here
@@ -167,19 +167,19 @@ module _ (plan : Plan) (h : History) (d : ℕ) (e : Entry) (at : IsAt (stored h)
       (line_kept plan h d e w l at fit.0 (λ q. ne (sym fit.0.guid ∙ q)), lines_put i ls ws x line apart.1 fit.1 here turn)
 
   pub none_passed : (p : Passed) (ls : List Line) (ws : List Writer) → p ≡ passed_by e
-      → LinesFit plan h d ls ws → HasNone ls p.writer → LinesFit plan h (d + 1) ls ws
+      → LinesFit plan h d ls ws → HasNone (guids ls) p.writer → LinesFit plan h (d + 1) ls ws
   none_passed p ls ws is fit none =
       lines_kept ls ws fit
-      (subst (HasNone ls) (ap (λ q. q.writer) is ∙ passed_writer e) none)
+      (subst (HasNone (guids ls)) (ap (λ q. q.writer) is ∙ passed_writer e) none)
 
   pub one_passed : (p : Passed) (i : ℕ) (ls : List Line) (ws : List Writer) (x line : Line)
-      → p ≡ passed_by e → Apart ws → LinesFit plan h d ls ws → IsPlaceOf ls i p.writer
+      → p ≡ passed_by e → Apart ws → LinesFit plan h d ls ws → IsPlaceOf (guids ls) i p.writer
       → x ≡ get_or ls i x
       → ((w : Writer) → LineFits plan h d x w → LineFits plan h (d + 1) line w)
       → LinesFit plan h (d + 1) (set ls i line) ws
   one_passed p i ls ws x line is apart fit here same turn =
       lines_put i ls ws x line apart fit
-      (subst (IsPlaceOf ls i) (ap (λ q. q.writer) is ∙ passed_writer e) here)
+      (subst (IsPlaceOf (guids ls) i) (ap (λ q. q.writer) is ∙ passed_writer e) here)
       (λ w fits. turn w (subst (λ q. LineFits plan h d q w) (sym same) fits))
 
 empty_any : {X : Type 0} (l : List X) → l ≡ drop 1 l → l ≡ []

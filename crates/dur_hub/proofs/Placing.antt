@@ -1,5 +1,5 @@
 -- One fact, among the lines of the hub.
-use Rattle.std.proofs.Common.{◌≡◌, ◌≢◌, ℕ, zero, suc, ◌<◌, ◌≤◌, List, [], ◌∷◌, ◌++◌, length, get_or, refl, ap, subst, ◌∙◌, sym, true, false, cond, Some, None, arith, append-nil}
+use Rattle.std.proofs.Common.{◌≡◌, ◌≢◌, ℕ, zero, suc, ◌<◌, ◌≤◌, List, [], ◌∷◌, ◌++◌, length, get_or, refl, ap, subst, ◌∙◌, sym, true, false, cond, Option, Some, None, arith, append-nil}
 use Rattle.std.proofs.Math.ListN.{set}
 use Rattle.std.specs.Prelude.{◌&&◌, ◌||◌}
 use Rattle.std.specs.Str.{bytes_eq}
@@ -8,6 +8,7 @@ use Rattle.dur_base.specs.declared.fact.Fact.{Fact}
 use Rattle.dur_base.specs.declared.fact.Fact.TheVariants as fact
 use Rattle.dur_qos.specs.declared.plan.Plan.{Plan}
 use Rattle.dur_qos.specs.Served.{reader_id_of}
+use Rattle.dur_view.specs.Identities.{Guid}
 use Rattle.dur_view.specs.Words.{is_same}
 use Rattle.dur_view.specs.History.{History, ◌+>◌, start, next as next_in}
 use Rattle.rtps_message.specs.Facts.{IsGoodFact}
@@ -30,10 +31,10 @@ use Rattle.dur_hub.specs.Lines.{LineFits, LinesFit, step_of, Speaks}
 use Rattle.dur_hub.specs.Looks.{is_late}
 use Rattle.dur_hub.specs.Dues.{is_after, AreDue}
 use Rattle.dur_hub.specs.Hubs.{StandsAt}
-use Rattle.dur_hub.specs.Places.{IsPlaceOf, HasNone}
+use Rattle.dur_hub.specs.Places.{guids, guids_of, IsPlaceOf, HasNone, IsIndex}
 use Rattle.dur_hub.specs.Hearings.{address_of, is_to, refusal_at, writer_in, OneStep, HearsTo, hearing_of}
 use Rattle.dur_hub.proofs.Guids.{differs, start_extend}
-use Rattle.dur_hub.proofs.Lookups.{other_place, none_of}
+use Rattle.dur_hub.proofs.Lookups.{other_place, none_of, index_lines}
 use Rattle.dur_hub.proofs.Dues.{neither, with_due, line_due}
 use Rattle.dur_hub.proofs.Stored.{durable_extend}
 use Rattle.dur_hub.proofs.Speakers.{speaker_in, speaker_good, with_none}
@@ -160,7 +161,7 @@ module _ (plan : Plan) (h : History) (d : ℕ) (f : Fact) (a : Address) (by : ad
 
   -- the line at a place of the writer, where the address is that of the line
   pub picks : (i : ℕ) (ls : List Line) (ws : List Writer) (x : Line) → LinesFit plan h d ls ws
-      → Apart ws → IsPlaceOf ls i a.writer → is_to (get_or ls i x) a ≡ true → Picked ls ws i x
+      → Apart ws → IsPlaceOf (guids ls) i a.writer → is_to (get_or ls i x) a ≡ true → Picked ls ws i x
   picks i [] ws x fit apart at is = absurd at
   picks i (l ∷ ls) [] x fit apart at is = absurd fit
   picks zero (l ∷ ls) (w ∷ ws) x fit apart at is =
@@ -173,7 +174,7 @@ module _ (plan : Plan) (h : History) (d : ℕ) (f : Fact) (a : Address) (by : ad
 
   -- where no line is that of the writer
   pub not_there : (ls : List Line) (ws : List Writer) → LinesFit plan h d ls ws
-      → HasNone ls a.writer → speaker_in plan f ws ≡ None
+      → HasNone (guids ls) a.writer → speaker_in plan f ws ≡ None
   not_there [] [] fit none = refl
   not_there [] (w ∷ ws) fit none = absurd fit
   not_there (l ∷ ls) [] fit none = absurd fit
@@ -184,7 +185,7 @@ module _ (plan : Plan) (h : History) (d : ℕ) (f : Fact) (a : Address) (by : ad
 
   -- where the line of the writer is that of another reader
   pub not_for_it : (i : ℕ) (ls : List Line) (ws : List Writer) (x : Line) → LinesFit plan h d ls ws
-      → Apart ws → IsPlaceOf ls i a.writer → is_to (get_or ls i x) a ≡ false
+      → Apart ws → IsPlaceOf (guids ls) i a.writer → is_to (get_or ls i x) a ≡ false
       → speaker_in plan f ws ≡ None
   not_for_it i [] ws x fit apart at is = absurd at
   not_for_it i (l ∷ ls) [] x fit apart at is = absurd fit
@@ -200,23 +201,25 @@ module _ (plan : Plan) (h : History) (d : ℕ) (f : Fact) (a : Address) (by : ad
       ∙ not_for_it i ls ws x fit.1 apart.1 at is
 
 -- a fact of a writer of the plan
-pub one_step : (l : Ledger) (ls : List Line) (m i : ℕ) (f : Fact) (a : Address) (x : Heeded) (notes mid : Notes) (l' : Ledger) (line line' : Line) (notes' : Notes)
-    → IsGoodFact f → address_of f ≡ Some a → IsPlaceOf ls i a.writer → is_to line a ≡ true
+pub one_step : (l : Ledger) (ls : List Line) (index : Guid → Option ℕ) (m i : ℕ) (f : Fact) (a : Address) (x : Heeded) (notes mid : Notes) (l' : Ledger) (line line' : Line) (notes' : Notes)
+    → IsGoodFact f → address_of f ≡ Some a
+    → (IsIndex index (guids ls) → IsPlaceOf (guids ls) i a.writer) → is_to line a ≡ true
     → line ≡ get_or ls i line → (speaks : Speaks l line m f x l' line')
     → mid.acks.items ≡ notes.acks.items → mid.refused.items ≡ notes.refused.items
     → notes'.acks.items ≡ mid.acks.items ++ ack_of x.ack
     → notes'.refused.items ≡ mid.refused.items ++ refusal_at a.writer x.end
     → ((now : ℕ) → is_after notes'.due now ≡ (is_after notes.due now || is_late line' now))
-    → OneStep l ls m f notes l' (set ls i line') notes' (step_of f speaks.entries x)
-one_step l ls m i f a x notes mid l' line line' notes' fine by place own at speaks acks0 refused0 acks refused due = record {
+    → OneStep l ls index m f notes l' (set ls i line') notes' (step_of f speaks.entries x)
+one_step l ls index m i f a x notes mid l' line line' notes' fine by place own at speaks acks0 refused0 acks refused due = record {
   fact = refl;
   acks = acks ∙ ap (λ k. k ++ ack_of x.ack) acks0;
   refused =
       refused ∙ ap (λ k. k ++ refusal_at a.writer x.end) refused0
       ∙ ap (λ o. notes.refused.items ++ refusal_at (writer_in o) x.end) (sym by);
-  due = λ r st is all.
+  due = λ r st ix is all.
       let p =
-      picks r.plan r.history r.durable f a by i ls r.writers line st.lines st.good.apart place
+      picks r.plan r.history r.durable f a by i ls r.writers line st.lines st.good.apart
+      (place (index_lines r.plan r.history r.durable index ls r.writers st.lines ix))
       (subst (λ q. is_to q a ≡ true) at own) in
       let w : Writer = p.writer in
       let step : Step = step_of f speaks.entries x in
@@ -231,13 +234,14 @@ one_step l ls m i f a x notes mid l' line line' notes' fine by place own at spea
       with_due r.plan f notes'.due notes.due (spoken r step) r.writers w p.found
       (λ now no1. (ends now no1).0) all
       (line_due r.plan (r.history +> speaks.entries) r.durable notes'.due line' (spoken r step w) b.2 (λ now no1. (ends now no1).1));
-  holds = λ r st is.
+  holds = λ r st ix is.
       let d : ℕ = r.durable in
       let es : List Entry = speaks.entries in
       let h' : History = r.history +> es in
       let step : Step = step_of f es x in
       let p =
-      picks r.plan r.history d f a by i ls r.writers line st.lines st.good.apart place
+      picks r.plan r.history d f a by i ls r.writers line st.lines st.good.apart
+      (place (index_lines r.plan r.history r.durable index ls r.writers st.lines ix))
       (subst (λ q. is_to q a ≡ true) at own) in
       let w : Writer = p.writer in
       let fits : LineFits r.plan r.history d line w =
@@ -258,55 +262,59 @@ one_step l ls m i f a x notes mid l' line line' notes' fine by place own at spea
 }
 
 -- a fact that is none of a writer of the plan
-pub no_step : (l : Ledger) (ls : List Line) (m : ℕ) (f : Fact) (notes : Notes) → IsGoodFact f
-    → ((r : Run) → StandsAt l ls r → speaker r f ≡ None)
-    → OneStep l ls m f notes l ls notes record {
+pub no_step : (l : Ledger) (ls : List Line) (index : Guid → Option ℕ) (m : ℕ) (f : Fact) (notes : Notes) → IsGoodFact f
+    → ((r : Run) → StandsAt l ls r → IsIndex index (guids_of r.writers) → speaker r f ≡ None)
+    → OneStep l ls index m f notes l ls notes record {
       fact = f;
       entries = [];
       end = Waits;
       ack = None;
     }
-no_step l ls m f notes fine out = record {
+no_step l ls index m f notes fine out = record {
   fact = refl;
   acks = sym (append-nil notes.acks.items);
   refused = sym (append-nil notes.refused.items);
-  due = λ r st is all.
+  due = λ r st ix is all.
       let step : Step = record { fact = f; entries = []; end = Waits; ack = None } in
-      subst (AreDue notes.due) (sym (with_none r.plan f (spoken r step) r.writers (out r st))) all;
-  holds = λ r st is.
+      subst (AreDue notes.due) (sym (with_none r.plan f (spoken r step) r.writers (out r st ix))) all;
+  holds = λ r st ix is.
       let step : Step = record { fact = f; entries = []; end = Waits; ack = None } in
-      let legal : LegalStep r step = subst (HearsBy r step) (sym (out r st)) (refl, refl, refl) in (
+      let legal : LegalStep r step = subst (HearsBy r step) (sym (out r st ix)) (refl, refl, refl) in (
         legal,
         record {
           ledger = st.ledger;
           lines =
               subst (λ ws. LinesFit r.plan r.history r.durable ls ws)
-              (sym (with_none r.plan f (spoken r step) r.writers (out r st))) st.lines;
+              (sym (with_none r.plan f (spoken r step) r.writers (out r st ix))) st.lines;
           good = good_step r step st.good fine legal;
         },
       );
 }
 
-pub unknown : (l : Ledger) (ls : List Line) (f : Fact) (a : Address) → address_of f ≡ Some a
-    → HasNone ls a.writer → (r : Run) → StandsAt l ls r → speaker r f ≡ None
-unknown l ls f a by none r st =
-    not_there r.plan r.history r.durable f a by ls r.writers st.lines none
+pub unknown : (l : Ledger) (ls : List Line) (index : Guid → Option ℕ) (f : Fact) (a : Address)
+    → address_of f ≡ Some a → (IsIndex index (guids ls) → HasNone (guids ls) a.writer)
+    → (r : Run) → StandsAt l ls r → IsIndex index (guids_of r.writers) → speaker r f ≡ None
+unknown l ls index f a by none r st ix =
+    not_there r.plan r.history r.durable f a by ls r.writers st.lines
+    (none (index_lines r.plan r.history r.durable index ls r.writers st.lines ix))
 
-pub not_heard : (l : Ledger) (ls : List Line) (f : Fact) (a : Address) (i : ℕ) (line : Line)
-    → address_of f ≡ Some a → IsPlaceOf ls i a.writer → is_to (get_or ls i line) a ≡ false
-    → (r : Run) → StandsAt l ls r → speaker r f ≡ None
-not_heard l ls f a i line by place other r st =
-    not_for_it r.plan r.history r.durable f a by i ls r.writers line st.lines st.good.apart place
-    other
+pub not_heard : (l : Ledger) (ls : List Line) (index : Guid → Option ℕ) (f : Fact) (a : Address)
+    (i : ℕ) (line : Line)
+    → address_of f ≡ Some a → (IsIndex index (guids ls) → IsPlaceOf (guids ls) i a.writer)
+    → is_to (get_or ls i line) a ≡ false
+    → (r : Run) → StandsAt l ls r → IsIndex index (guids_of r.writers) → speaker r f ≡ None
+not_heard l ls index f a i line by place other r st ix =
+    not_for_it r.plan r.history r.durable f a by i ls r.writers line st.lines st.good.apart
+    (place (index_lines r.plan r.history r.durable index ls r.writers st.lines ix)) other
 
 -- a step is whole or cut off by its end
-pub heard_as : (l : Ledger) (ls : List Line) (m : ℕ) (f : Fact) (notes : Notes) (hearing : Hearing)
+pub heard_as : (l : Ledger) (ls : List Line) (index : Guid → Option ℕ) (m : ℕ) (f : Fact) (notes : Notes) (hearing : Hearing)
     (end : End) (l' : Ledger) (ls' : List Line) (notes' : Notes) (step : Step)
-    → hearing ≡ hearing_of end → step.end ≡ end → OneStep l ls m f notes l' ls' notes' step
-    → HearsTo l ls m f notes hearing l' ls' notes'
-heard_as l ls m f notes hearing end l' ls' notes' step at is one =
-    subst (λ x. HearsTo l ls m f notes x l' ls' notes') (sym at) (as_by end is) where
-      as_by : (x : End) → step.end ≡ x → HearsTo l ls m f notes (hearing_of x) l' ls' notes'
+    → hearing ≡ hearing_of end → step.end ≡ end → OneStep l ls index m f notes l' ls' notes' step
+    → HearsTo l ls index m f notes hearing l' ls' notes'
+heard_as l ls index m f notes hearing end l' ls' notes' step at is one =
+    subst (λ x. HearsTo l ls index m f notes x l' ls' notes') (sym at) (as_by end is) where
+      as_by : (x : End) → step.end ≡ x → HearsTo l ls index m f notes (hearing_of x) l' ls' notes'
       as_by Waits e = (step, one, λ q. (let p = sym e ∙ q in cc))
       as_by (Refuses n limit) e = (step, one, λ q. (let p = sym e ∙ q in cc))
       as_by Stopped e = (step, one, e)

@@ -1,5 +1,5 @@
 -- A `receive` is one legal event.
-use Rattle.std.proofs.Common.{◌≡◌, inl, inr, ℕ, ◌+◌, ◌≤◌, List, [], ◌∷◌, ◌++◌, length, take, map, refl, ap, subst, ◌∙◌, sym, Bool, true, false, cond, ◌||◌, arith, eq-eqb}
+use Rattle.std.proofs.Common.{◌≡◌, inl, inr, ℕ, ◌+◌, ◌≤◌, List, [], ◌∷◌, ◌++◌, length, take, map, refl, ap, subst, ◌∙◌, sym, Bool, true, false, cond, Option, ◌||◌, arith, eq-eqb}
 use Rattle.std.specs.List.{list_any}
 use Rattle.std.specs.Prelude.{filter, max, ◌==◌, ◌%◌, ◌^◌}
 use Rattle.std.proofs.lemmas.Bool.{ne_eqb}
@@ -7,6 +7,7 @@ use Rattle.dur_base.specs.declared.entry.Entry.TheVariants.{Lost}
 use Rattle.dur_base.specs.declared.fact.Fact.{Fact}
 use Rattle.dur_qos.specs.declared.plan.Plan.{Plan}
 use Rattle.dur_view.specs.declared.data.View.{View}
+use Rattle.dur_view.specs.Identities.{Guid}
 use Rattle.dur_view.specs.History.{History, start}
 use Rattle.rtps_message.specs.Facts.{AreGood}
 use Rattle.dur_hub.specs.declared.event.Event.{Event}
@@ -30,6 +31,8 @@ use Rattle.dur_hub.specs.Hearings.{refusals_of, HearsAll}
 use Rattle.dur_hub.specs.Hubs.{StandsAt, Adds}
 use Rattle.dur_hub.specs.Looks.{is_late, StepsLease}
 use Rattle.dur_hub.specs.Dues.{is_after, AreDue}
+use Rattle.dur_hub.specs.Places.{guids_of, found, IsIndex}
+use Rattle.dur_hub.proofs.Lookups.{index_leased, index_steps}
 use Rattle.dur_hub.specs.Answers.{TellsReceive, Answers, IsStopped, Begins, AnswersFacts}
 use Rattle.dur_hub.proofs.Guids.{start_extend}
 use Rattle.dur_hub.proofs.GoodCalls.{good_moment}
@@ -65,14 +68,14 @@ pairs_heard plan h d now (l ∷ ls) [] fit = fit
 pairs_heard plan h d now (l ∷ ls) (w ∷ ws) fit = (fit.0, pairs_heard plan h d now ls ws fit.1)
 
 -- the answer of the facts
-pub answers : (l : Ledger) (ls : List Line) (m : ℕ) (facts : List Fact) (notes0 notes : Notes)
+pub answers : (l : Ledger) (ls : List Line) (index : Guid → Option ℕ) (m : ℕ) (facts : List Fact) (notes0 notes : Notes)
     (heard : Heard) (reply : Received) (l' : Ledger) (ls' : List Line)
-    → HearsAll l ls m facts notes0 heard l' ls' notes
+    → HearsAll l ls index m facts notes0 heard l' ls' notes
     → notes0.acks.items ≡ [] → notes0.refused.items ≡ []
     → (reply.acks ≡ notes.acks.items) × (reply.refused ≡ notes.refused.items)
     × (reply.handled ≡ heard.handled) × (reply.stopped ≡ heard.stopped)
-    → Answers l ls notes0.due m facts reply l' ls' notes.due
-answers l ls m facts notes0 notes heard reply l' ls' so acks0 refused0 same = record {
+    → Answers l ls index notes0.due m facts reply l' ls' notes.due
+answers l ls index m facts notes0 notes heard reply l' ls' so acks0 refused0 same = record {
   steps = so.steps;
   cut = so.cut;
   tells = record {
@@ -130,6 +133,7 @@ or_true false = refl
 -- what a call leaves as it was
 pub record SameCounts (old new : Hub) : Type 0 where
   pub plan : new.plan ≡ old.plan
+  pub index : new.index ≡ old.index
   pub places : new.places ≡ old.places
   pub working : new.working ≡ old.working
   pub stopped : new.stopped ≡ old.stopped
@@ -169,6 +173,9 @@ begins old new m used done ls ls' used_is lines lines2 lease same moment begun g
         record {
           at = subst (λ k. StandsAt new.ledger k r2) (sym lines2) b.1;
           plan = same.plan ∙ here.plan;
+          index =
+              subst (λ k. IsIndex (found k) (guids_of r2.writers)) (sym same.index)
+              (index_leased (found old.index) r1.begun r1.moment n r1.writers here.index);
           places =
               places_same r.plan (start r.history) r.plan (start r2.history) old.places new.places
               same.places refl
@@ -213,6 +220,7 @@ begins_quietly old m used used_is begun quiet = record {
         record {
           at = st;
           plan = here.plan;
+          index = index_leased (found old.index) r1.begun r1.moment 0 r1.writers here.index;
           places = here.places;
           moment = sym is;
           begun = begun ∙ sym went;
@@ -233,7 +241,7 @@ begins_quietly old m used used_is begun quiet = record {
 -- the facts of a call
 pub answers_facts : (old new : Hub) (facts : List Fact) (reply : Received) (ls ls' : List Line)
     → ls ≡ old.lines.items → new.lines.items ≡ ls'
-    → Answers old.ledger ls old.due old.moment facts reply new.ledger ls' new.due
+    → Answers old.ledger ls (found old.index) old.due old.moment facts reply new.ledger ls' new.due
     → SameCounts old new → new.moment ≡ old.moment → new.begun ≡ old.begun → new.given ≡ old.given
     → new.acks ≡ (old.acks + length reply.acks) % 2 ^ 64
     → new.refused ≡ (old.refused + length reply.refused) % 2 ^ 64 → AnswersFacts old facts reply new
@@ -245,19 +253,22 @@ answers_facts old new facts reply ls ls' lines lines2 a same moment begun given 
   holds = λ r here all.
       let ss : List Step = a.steps ++ a.cut in
       let d =
-      a.holds r (subst (λ k. StandsAt old.ledger k r) (sym lines) here.at) (sym here.moment) in
+      a.holds r (subst (λ k. StandsAt old.ledger k r) (sym lines) here.at) here.index (sym here.moment) in
       let r3 : Run = after_steps r ss in (
         d.0,
         record {
           at = subst (λ k. StandsAt new.ledger k r3) (sym lines2) d.1;
           plan = same.plan ∙ here.plan ∙ sym (plan_steps r ss);
+          index =
+              subst (λ k. IsIndex (found k) (guids_of r3.writers)) (sym same.index)
+              (index_steps (found old.index) r ss here.index);
           places =
               places_same r.plan (start r.history) r3.plan (start r3.history) old.places new.places
               same.places (plan_steps r ss) (places_steps r ss) here.places;
           moment = moment ∙ here.moment ∙ sym (moment_steps r ss);
           begun = begun ∙ here.begun ∙ sym (begun_steps r ss);
           due =
-              λ yes1. a.until r (subst (λ k. StandsAt old.ledger k r) (sym lines) here.at)
+              λ yes1. a.until r (subst (λ k. StandsAt old.ledger k r) (sym lines) here.at) here.index
               (sym here.moment) (here.due all);
           given = ap (λ v. v.items) given ∙ here.given ∙ sym (given_steps r ss);
           leaving = λ no1. absurd (let q = begun_steps r ss ∙ all in cc);

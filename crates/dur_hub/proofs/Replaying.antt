@@ -92,6 +92,7 @@ given_one mid new r g is given here = subst (λ k. HubAt k (record r { given = r
         good = good_given r (r.given ++ g ∷ []) here.at.good;
       };
       plan = here.plan;
+      index = here.index;
       places = here.places;
       moment = here.moment;
       begun = here.begun;
@@ -111,6 +112,7 @@ same_given mid new r is given here = subst (λ k. HubAt k r) (sym is) (
     record {
       at = record { ledger = here.at.ledger; lines = here.at.lines; good = here.at.good };
       plan = here.plan;
+      index = here.index;
       places = here.places;
       moment = here.moment;
       begun = here.begun;

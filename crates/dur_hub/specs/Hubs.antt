@@ -10,6 +10,7 @@ use Rattle.dur_hub.specs.Replays.{PlacesFit}
 use Rattle.dur_hub.specs.LeftBehind.{AreLeaving}
 use Rattle.dur_hub.specs.Legal.{Legal, run_after}
 use Rattle.dur_hub.specs.Dues.{AreDue}
+use Rattle.dur_hub.specs.Places.{guids_of, found, IsIndex}
 use Rattle.dur_hub.specs.Lines.{LinesFit}
 use Rattle.dur_hub.specs.Queues.{LedgerAt}
 use Rattle.dur_hub.specs.GoodRuns.{IsGoodRun}
@@ -24,6 +25,7 @@ pub record StandsAt (l : Ledger) (ls : List Line) (r : Run) : Type 0 where
 pub record HubAt (hub : Hub) (r : Run) : Type 0 where
   pub at : StandsAt hub.ledger hub.lines.items r
   pub plan : hub.plan ≡ r.plan
+  pub index : IsIndex (found hub.index) (guids_of r.writers)
   pub places : PlacesFit r.plan (start r.history).topics hub.places
   pub moment : hub.moment ≡ r.moment
   pub begun : hub.begun ≡ r.begun

@@ -5,6 +5,7 @@ ghost use Rattle.dur_hub.specs.declared.event.Event.{Event};
 ghost use Rattle.dur_hub.specs.Runs.{opening};
 ghost use Rattle.dur_hub.specs.Openings.{MayOpen};
 ghost use Rattle.dur_hub.specs.Hubs.{Stands, Adds};
+ghost use Rattle.dur_hub.specs.Places.{found};
 ghost use Rattle.dur_hub.specs.Answers.{Answers, TellsReceive, Begins, AnswersFacts, IsStopped};
 ghost use Rattle.rtps_message.specs.Facts.{AreGood};
 
@@ -86,7 +87,7 @@ fn answer_facts(
     facts: List<Fact>,
 ) -> Received
     requires { AreGood facts }
-    ensures { Answers ledger.old lines.old due.old moment facts result ledger.new lines.new due.new }
+    ensures { Answers ledger.old lines.old (found index.now) due.old moment facts result ledger.new lines.new due.new }
 {
     let mut notes = Notes {
         acks: Vec::new(alloc),

@@ -8,6 +8,7 @@ ghost use Rattle.dur_view.specs.Stored.{stored};
 ghost use Rattle.dur_hub.specs.Runs.{Writer};
 ghost use Rattle.dur_hub.specs.GoodRuns.{Apart};
 ghost use Rattle.dur_hub.specs.Lines.{LineFits, LinesFit};
+ghost use Rattle.dur_hub.specs.Places.{guids_of, found, IsIndex};
 ghost use Rattle.dur_hub.specs.Queues.{passed_by, Queued};
 ghost use Rattle.dur_hub.specs.Marks.{IsAt, passed_number};
 
@@ -40,6 +41,7 @@ fn pass_line(line: &mut Line, passed: &Passed)
 fn pass_one(lines: &mut [Line], index: &HashMap<[u8; 16], usize>, passed: &Passed)
     ensures { (plan : Plan) (h : History) (d : ℕ) (e : Entry) (ws : List Writer)
         → IsAt (stored h) d e → passed.now ≡ passed_by e → Apart ws
+        → IsIndex (found index.now) (guids_of ws)
         → LinesFit plan h d lines.old ws → LinesFit plan h (d + 1) lines.new ws }
 {
     if let Some(place) = place_of(lines, index, passed.writer) {
@@ -51,6 +53,7 @@ fn pass_one(lines: &mut [Line], index: &HashMap<[u8; 16], usize>, passed: &Passe
 pub fn pass_all(queue: &mut Queue, lines: &mut [Line], index: &HashMap<[u8; 16], usize>, count: u64)
     ensures { (plan : Plan) (h : History) (t d : ℕ) (ws : List Writer)
         → Queued queue.old t d (stored h) → d + count ≤ t → Apart ws
+        → IsIndex (found index.now) (guids_of ws)
         → LinesFit plan h d lines.old ws
         → Queued queue.new t (d + count) (stored h) × LinesFit plan h (d + count) lines.new ws }
 {

@@ -13,5 +13,5 @@ returns c =
     begins c.args.self.now _ _ _ _ _ _ c.later-used.ensures c.deref_mut.ensures.value
     (with_items_is c.args.self.now.lines c.lease_step-whole.new.lines (omega arith))
     c.lease_step-whole.ensures
-    record { plan = refl; places = refl; working = refl; stopped = refl } refl c.either-self.ensures refl refl refl
+    record { plan = refl; index = refl; places = refl; working = refl; stopped = refl } refl c.either-self.ensures refl refl refl
     (λ now. c.first_end-self.ensures now ∙ ap (list_any (λ line. is_late line now)) c.deref.ensures.value)
