@@ -1,9 +1,8 @@
 -- A hub may be opened over the blank view of a good plan.
-use Rattle.std.proofs.Common.{◌≡◌, ◌⊎◌, inl, inr, ℕ, zero, suc, ◌<◌, List, [], ◌∷◌, ◌++◌, length, get_or, map, refl, ap, subst, ◌∙◌, sym, Bool, true, false, cond, not, Some, None, arith, append-nil}
-use Rattle.std.specs.Prelude.{filter, is_some, slice_get, All, Contains}
+use Rattle.std.proofs.Common.{◌≡◌, inl, inr, ℕ, zero, suc, ◌<◌, List, [], ◌∷◌, ◌++◌, length, get_or, map, refl, ap, subst, ◌∙◌, sym, Bool, true, false, cond, not, Some, arith, append-nil}
+use Rattle.std.specs.Prelude.{filter, is_some, slice_get}
 use Rattle.std.proofs.lemmas.List.{length-map}
 use Rattle.std.proofs.lemmas.List.Elements.{All-contains_itself}
-use Rattle.std.specs.Str.{bytes_eq}
 use Rattle.dur_qos.specs.declared.plan.Plan.{Plan}
 use Rattle.dur_qos.specs.declared.plan.Topic.{Topic}
 use Rattle.dur_qos.specs.declared.plan.WriterLine.{WriterLine}
@@ -12,11 +11,11 @@ use Rattle.dur_qos.specs.Plan.{place_of}
 use Rattle.dur_view.specs.declared.data.KeptWriter.{KeptWriter}
 use Rattle.dur_view.specs.declared.data.View.{View}
 use Rattle.dur_view.specs.Words.{is_same, writer_line, stands}
-use Rattle.dur_view.specs.Full.{first_line, new_writer, more_topics, more_writers, full, blank}
+use Rattle.dur_view.specs.Full.{first_line, new_writer, more_topics, full, blank}
 use Rattle.dur_view.specs.IsSound.{IsSound}
 use Rattle.dur_view.proofs.BlankViews.{blank-is}
 use Rattle.dur_view.proofs.BlankSound.{sound-blank}
-use Rattle.dur_hub.specs.Openings.{HasOneTopic, MayOpen}
+use Rattle.dur_hub.specs.Openings.{MayOpen}
 use Rattle.dur_hub.proofs.Guids.{same_true, same_is}
 use Rattle.dur_hub.proofs.Topics.{Among, found_in, same_name}
 use Rattle.dur_hub.proofs.Declared.{Lacks, Differ, IsOne, differ_plan}

@@ -1,5 +1,5 @@
 -- One more call.
-use Rattle.std.proofs.Common.{◌≡◌, ℕ, ◌+◌, ◌-◌, ◌≤◌, List, [], ◌∷◌, ◌++◌, length, take, drop, refl, ap, subst, ◌∙◌, sym, true, Some, None}
+use Rattle.std.proofs.Common.{◌≡◌, ℕ, ◌+◌, ◌-◌, ◌≤◌, List, [], ◌∷◌, ◌++◌, length, take, drop, refl, ap, subst, ◌∙◌, sym, true}
 use Rattle.std.specs.Prelude.{◌%◌, ◌^◌, Ok, Err}
 use Rattle.std.proofs.lemmas.List.{take_all}
 use Rattle.std.proofs.Common.{arith, length-drop}
@@ -21,9 +21,10 @@ use Rattle.dur_view.specs.Stored.{stored}
 use Rattle.dur_hub.specs.Runs.{Writer, Run}
 use Rattle.dur_hub.specs.Legal.{LegalAt, after, Legal, run_after, IsBatch, with_taken, named}
 use Rattle.dur_qos.specs.declared.plan.Plan.{Plan}
-use Rattle.dur_hub.specs.Queues.{Queued, TakenAll, LedgerAt}
+use Rattle.dur_hub.specs.Queues.{Queued, TakenAll}
+use Rattle.dur_hub.specs.Places.{guids_of, found, IsIndex}
 use Rattle.dur_hub.specs.Lines.{LinesFit}
-use Rattle.dur_hub.specs.GoodRuns.{IsGoodRun}
+use Rattle.dur_hub.specs.GoodRuns.{Apart, IsGoodRun}
 use Rattle.dur_hub.specs.Hubs.{HubAt, Stands, Adds}
 use Rattle.dur_hub.proofs.GoodCalls.{good_call}
 
@@ -57,9 +58,11 @@ stops old = one_call old (record old { stopped = true }) call.Stop (λ r here. (
       good = good_call r call.Stop here.at.good tt;
     };
     plan = here.plan;
+    index = here.index;
     places = here.places;
     moment = here.moment;
     begun = here.begun;
+    due = here.due;
     given = here.given;
     leaving = here.leaving;
     acks = here.acks;
@@ -82,9 +85,11 @@ leaves old working is = one_call old (record old { working = working }) call.Lea
       good = good_call r call.Leave here.at.good tt;
     };
     plan = here.plan;
+    index = here.index;
     places = here.places;
     moment = here.moment;
     begun = here.begun;
+    due = here.due;
     given = here.given;
     leaving = here.leaving;
     acks = here.acks;
@@ -120,9 +125,11 @@ taken_at old q r n e b here legal is queued = subst (λ k. HubAt (with_queue old
         good = subst (λ k. IsGoodRun k) is (good_call r e here.at.good legal);
       };
       plan = here.plan;
+      index = here.index;
       places = here.places;
       moment = here.moment;
       begun = here.begun;
+      due = here.due;
       given = here.given;
       leaving = here.leaving;
       acks = here.acks;
@@ -179,7 +186,7 @@ takes_none hub e = one_call hub hub (call.TakeView (Err e)) (λ r here. (tt, her
 -- what was stored was marked
 pub marks : (old new : Hub) (upto count : ℕ) (ls ls' : List Line) → ls ≡ old.lines.items
     → new.lines.items ≡ ls'
-    → ((plan : Plan) (h : History) (t d : ℕ) (ws : List Writer) → Queued old.ledger.queue t d (stored h) → d + count ≤ t → LinesFit plan h d ls ws → Queued new.ledger.queue t (d + count) (stored h) × LinesFit plan h (d + count) ls' ws)
+    → ((plan : Plan) (h : History) (t d : ℕ) (ws : List Writer) → Queued old.ledger.queue t d (stored h) → d + count ≤ t → Apart ws → IsIndex (found old.index) (guids_of ws) → LinesFit plan h d ls ws → Queued new.ledger.queue t (d + count) (stored h) × LinesFit plan h (d + count) ls' ws)
     → ((d : ℕ) → old.ledger.queue.durable ≡ d % 2 ^ 64 → d + count ≡ named d upto)
     → new ≡ record old {
       ledger = record old.ledger { queue = new.ledger.queue };
@@ -194,7 +201,7 @@ marks old new upto count ls ls' lines lines' pass count_is is start log st legal
     let n : r.durable + count ≡ named r.durable upto = count_is r.durable q.lined.durable in
     let both =
     pass r.plan r.history r.taken r.durable r.writers q (subst (λ k. k ≤ r.taken) (sym n) legal)
-    (subst (λ l. LinesFit r.plan r.history r.durable l r.writers) (sym lines) here.at.lines) in
+    here.at.good.apart here.index (subst (λ l. LinesFit r.plan r.history r.durable l r.writers) (sym lines) here.at.lines) in
     let moved : Hub = record old {
       ledger = record old.ledger { queue = new.ledger.queue };
       lines = new.lines;
@@ -212,9 +219,11 @@ marks old new upto count ls ls' lines lines' pass count_is is start log st legal
         good = good_call r (call.Mark upto) here.at.good legal;
       };
       plan = here.plan;
+      index = here.index;
       places = here.places;
       moment = here.moment;
       begun = here.begun;
+      due = here.due;
       given = here.given;
       leaving = here.leaving;
       acks = here.acks;

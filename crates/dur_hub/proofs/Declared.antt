@@ -1,5 +1,5 @@
 -- The writers of a plan in its full view.
-use Rattle.std.proofs.Common.{◌≡◌, ◌⊎◌, inl, inr, ℕ, zero, suc, ◌+◌, ◌<◌, ◌≤◌, List, [], ◌∷◌, ◌++◌, length, map, refl, ap, subst, ◌∙◌, sym, Bool, true, false, cond, not, Option, Some, None, arith, length-append}
+use Rattle.std.proofs.Common.{◌≡◌, ◌⊎◌, inl, inr, ℕ, suc, ◌<◌, List, [], ◌∷◌, ◌++◌, length, map, refl, ap, subst, ◌∙◌, sym, Bool, true, false, cond, not, Option, Some, None, arith}
 use Rattle.std.specs.Prelude.{filter, is_some, slice_get, option_map, unwrap_or, All}
 use Rattle.std.specs.List.{AllByRecursion}
 use Rattle.std.specs.Str.{bytes_eq}
@@ -11,22 +11,21 @@ use Rattle.dur_qos.specs.Plan.{has_writer}
 use Rattle.dur_view.specs.Identities.{Guid}
 use Rattle.dur_view.specs.declared.data.KeptWriter.{KeptWriter}
 use Rattle.dur_view.specs.declared.data.View.{View}
-use Rattle.dur_view.specs.Words.{is_same, writer_line, stands, topic_of}
+use Rattle.dur_view.specs.Words.{is_same, writer_line, stands}
 use Rattle.dur_view.specs.Past.{no_topic}
 use Rattle.dur_view.specs.Full.{topic_place, new_writer, more_topics, more_writers, places_of, full}
-use Rattle.dur_view.specs.History.{History, Start, start, next}
+use Rattle.dur_view.specs.History.{Start}
 use Rattle.dur_view.specs.IsSound.{IsSound}
 use Rattle.dur_view.proofs.SoundTests.{TopicsPass}
 use Rattle.dur_view.proofs.CountedTopics.{few-topics}
 use Rattle.dur_view.proofs.FullSound.{full-sound}
 use Rattle.dur_view.proofs.GoodTopics.{topics-pass}
-use Rattle.dur_hub.specs.Telling.{topic_in}
-use Rattle.dur_hub.specs.Runs.{Writer, Run, first_writer, opening}
-use Rattle.dur_hub.specs.GoodRuns.{GoodWriter, GoodWriters, Out, Apart, IsGoodRun}
+use Rattle.dur_hub.specs.Runs.{first_writer, opening}
+use Rattle.dur_hub.specs.GoodRuns.{GoodWriters, Out, Apart, IsGoodRun}
 use Rattle.dur_hub.specs.Openings.{HasOneTopic, MayOpen, WriterStands}
 use Rattle.dur_hub.specs.Replays.{PlacesFit}
 use Rattle.dur_hub.proofs.Guids.{same_true, same_is}
-use Rattle.dur_hub.proofs.Topics.{AllAmong, all_among, full_topics, topic_stands, get_within, get_some, get_front}
+use Rattle.dur_hub.proofs.Topics.{AllAmong, all_among, topic_stands, get_within, get_some, get_front}
 
 -- ---- GUIDs of a plan's writers
 

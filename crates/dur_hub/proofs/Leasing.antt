@@ -1,7 +1,7 @@
 -- The lease step, line by line.
-use Rattle.std.proofs.Common.{◌≡◌, ℕ, zero, suc, ◌+◌, ◌<◌, ◌≤◌, List, [], ◌∷◌, ◌++◌, length, take, map, get_or, refl, ap, subst, ◌∙◌, sym, Bool, true, false, cond, not, arith}
+use Rattle.std.proofs.Common.{◌≡◌, ℕ, zero, suc, ◌+◌, ◌<◌, ◌≤◌, List, [], ◌∷◌, ◌++◌, length, take, map, get_or, refl, ap, subst, ◌∙◌, sym, Bool, true, false, cond, arith}
 use Rattle.std.proofs.Math.ListN.{set}
-use Rattle.std.specs.Prelude.{filter, ◌&&◌}
+use Rattle.std.specs.Prelude.{filter}
 use Rattle.dur_base.specs.declared.entry.Entry.{Entry}
 use Rattle.dur_base.specs.declared.entry.Entry.TheVariants.{Lost}
 use Rattle.dur_qos.specs.declared.plan.Plan.{Plan}
@@ -13,7 +13,7 @@ use Rattle.dur_hub.specs.declared.ledger.Ledger.{Ledger}
 use Rattle.dur_hub.specs.declared.line.Line.{Line}
 use Rattle.dur_view.specs.Stored.{stored, is_stored}
 use Rattle.dur_hub.specs.Runs.{Writer, Run}
-use Rattle.dur_hub.specs.Leases.{is_past, is_overdue, is_left_behind, leavers, lose, heard_now, after_lease}
+use Rattle.dur_hub.specs.Leases.{is_overdue, is_left_behind, leavers, lose, heard_now, after_lease}
 use Rattle.dur_hub.specs.GoodRuns.{GoodWriter, GoodWriters, IsGoodRun}
 use Rattle.dur_hub.specs.Lines.{LineFits, LinesFit}
 use Rattle.dur_hub.specs.Queues.{LedgerAt}
@@ -21,6 +21,7 @@ use Rattle.dur_hub.specs.Hubs.{StandsAt}
 use Rattle.dur_hub.specs.Looks.{is_late, overdue_upto, LookedAt, Leases}
 use Rattle.dur_hub.proofs.Guids.{start_extend}
 use Rattle.dur_hub.proofs.Stored.{durable_extend}
+use Rattle.dur_hub.proofs.Dues.{late_is}
 use Rattle.dur_hub.proofs.Placing.{lines_same}
 use Rattle.dur_hub.proofs.GoodCalls.{good_lease}
 
@@ -165,13 +166,6 @@ leavers_begun r is =
     is
 
 -- ---- the step
-
-pub late_is : (plan : Plan) (h : History) (d now : ℕ) (line : Line) (w : Writer)
-    → LineFits plan h d line w → is_late line now ≡ is_overdue now w
-late_is plan h d now line w fits =
-    ap (λ b. not b && is_past line.lease line.heard now) fits.lost
-    ∙ ap (λ x. not w.lost && is_past x line.heard now) fits.lease
-    ∙ ap (λ x. not w.lost && is_past w.line.lease x now) fits.heard
 
 abbrev pub gone : Run → ℕ → History
 gone r n = r.history +> map (Lost r.moment) (take n (leavers r))

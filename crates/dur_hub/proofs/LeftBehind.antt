@@ -1,12 +1,11 @@
 -- Who is left behind, once some of them are lost.
-use Rattle.std.proofs.Common.{◌≡◌, ℕ, suc, ◌+◌, ◌≤◌, ◌<◌, List, [], ◌∷◌, ◌++◌, length, take, drop, map, refl, ap, subst, ◌∙◌, sym, Bool, true, false, cond, not, Some, eq-eqb, eqb-true, arith}
+use Rattle.std.proofs.Common.{◌≡◌, ℕ, ◌+◌, List, [], ◌∷◌, ◌++◌, take, drop, map, refl, ap, subst, ◌∙◌, sym, Bool, true, false, cond, not, Some, eq-eqb, eqb-true, arith}
 use Rattle.std.specs.Prelude.{◌==◌, ◌&&◌, ◌||◌, filter, is_some}
 use Rattle.std.specs.List.{list_all, list_any}
 use Rattle.std.proofs.lemmas.Bool.{ne_eqb, and_parts}
 use Rattle.std.proofs.lemmas.List.{take-append-drop, drop-map}
 use Rattle.std.proofs.lemmas.Map.Views.{any-filter_same}
 use mathlib.Core.Path.{fun_ext}
-use Rattle.dur_base.specs.declared.entry.Entry.{Entry}
 use Rattle.dur_base.specs.declared.entry.Entry.TheVariants.{Lost}
 use Rattle.dur_qos.specs.declared.plan.Plan.{Plan}
 use Rattle.dur_qos.specs.Plan.{has_writer}
@@ -16,7 +15,7 @@ use Rattle.dur_view.specs.declared.data.View.{View}
 use Rattle.dur_view.specs.Words.{is_same, writer_line, stands, topic_of, place_in}
 use Rattle.dur_view.specs.History.{History, Start, ◌▸◌, ◌+>◌, start, held}
 use Rattle.dur_view.specs.declared.change.TopicEvent.TheVariants.{Gone}
-use Rattle.dur_view.specs.Past.{Past, ◌▹◌, ◌▹▹◌, past}
+use Rattle.dur_view.specs.Past.{Past, ◌▹▹◌, past}
 use Rattle.dur_view.specs.Fates.{without, registered, keys}
 use Rattle.dur_view.specs.IsSound.{IsSound, IsHistory}
 use Rattle.dur_view.proofs.SoundTests.{each_two}

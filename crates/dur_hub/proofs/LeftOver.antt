@@ -1,6 +1,6 @@
 -- Who is left behind in the run that has no call yet.
-use Rattle.std.proofs.Common.{◌≡◌, ℕ, zero, suc, ◌+◌, ◌<◌, ◌≤◌, List, [], ◌∷◌, ◌++◌, length, map, refl, ap, subst, ◌∙◌, sym, Bool, true, false, cond, not, ◌⊎◌, inl, inr, append-nil, Option, Some, None, eqb-true, eq-eqb, arith, append_assoc, length-append}
-use Rattle.std.specs.Prelude.{◌==◌, ◌&&◌, ◌||◌, filter, find, is_some, slice_get, option_map, unwrap_or, nat_lt}
+use Rattle.std.proofs.Common.{◌≡◌, ℕ, zero, suc, ◌+◌, ◌<◌, List, [], ◌∷◌, ◌++◌, length, map, refl, ap, subst, ◌∙◌, sym, Bool, true, false, cond, not, ◌⊎◌, inl, inr, append-nil, Option, Some, eqb-true, eq-eqb, arith, append_assoc, length-append}
+use Rattle.std.specs.Prelude.{◌==◌, ◌&&◌, ◌||◌, filter, slice_get, option_map, unwrap_or, nat_lt}
 use Rattle.std.specs.List.{list_all, list_any}
 use Rattle.std.specs.Str.{bytes_eq}
 use Rattle.std.proofs.lemmas.Bool.{and_parts}
@@ -9,7 +9,6 @@ use Rattle.std.proofs.lemmas.List.Elements.{filter-append}
 use Rattle.std.proofs.lemmas.Bool.{ltb-true}
 use Rattle.std.specs.Ordering.{is_eq}
 use Rattle.std.specs.declared.cmp.Ordering.TheVariants.{Less}
-use mathlib.Core.Path.{fun_ext}
 use Rattle.dur_qos.specs.declared.plan.Plan.{Plan}
 use Rattle.dur_qos.specs.declared.plan.WriterLine.{WriterLine}
 use Rattle.dur_qos.specs.Plan.{has_writer}
@@ -18,13 +17,12 @@ use Rattle.dur_view.specs.declared.data.KeptWriter.{KeptWriter}
 use Rattle.dur_view.specs.declared.data.Instance.{Instance}
 use Rattle.dur_view.specs.declared.data.View.{View}
 use Rattle.dur_view.specs.Words.{is_same, is_key, writer_line, stands, topic_of, place_in}
-use Rattle.dur_view.specs.History.{History, Start, start, held}
-use Rattle.dur_view.specs.Past.{Past, Begin, part, past}
-use Rattle.dur_view.specs.Fates.{key_cmp, line_in, registered, keys}
+use Rattle.dur_view.specs.History.{Start, held}
+use Rattle.dur_view.specs.Past.{part}
+use Rattle.dur_view.specs.Fates.{key_cmp, line_in}
 use Rattle.dur_view.specs.Persistent.{is_persistent, passes_at}
-use Rattle.dur_view.specs.Stored.{is_stored}
 use Rattle.dur_view.specs.Full.{new_writer, more_topics, more_writers, full}
-use Rattle.dur_view.specs.Sound.{EachKey, Ascending, SoundPart}
+use Rattle.dur_view.specs.Sound.{EachKey, Ascending}
 use Rattle.dur_view.proofs.SoundTests.{PassesTests}
 use Rattle.dur_view.proofs.SoundViews.{sound_parts}
 use Rattle.dur_hub.specs.declared.left_behind.Leaver.{Leaver}

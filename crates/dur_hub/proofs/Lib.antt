@@ -13,9 +13,11 @@ pub mod Ledgers
 pub mod Turning
 pub mod Answering
 pub mod Calls
+pub mod Lookups
 pub mod Passing
 pub mod Placing
 pub mod Going
+pub mod Dues
 pub mod Leasing
 pub mod LeftBehind
 pub mod Losing

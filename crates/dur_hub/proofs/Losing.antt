@@ -15,7 +15,7 @@ use Rattle.dur_hub.specs.declared.left_behind.Leaver.{Leaver}
 use Rattle.dur_hub.specs.declared.ledger.Ledger.{Ledger}
 use Rattle.dur_hub.specs.declared.line.Line.{Line}
 use Rattle.dur_view.specs.Stored.{stored}
-use Rattle.dur_hub.specs.Runs.{Writer, Run}
+use Rattle.dur_hub.specs.Runs.{Writer}
 use Rattle.dur_hub.specs.Leases.{leavers, lose, heard_now, after_lease}
 use Rattle.dur_hub.specs.LeftBehind.{leaver_of, AreLeaving, AllStand, AreLost, LosesLeft}
 use Rattle.dur_hub.specs.Lines.{LinesFit}
@@ -25,7 +25,7 @@ use Rattle.dur_hub.proofs.Guids.{start_extend}
 use Rattle.dur_hub.proofs.Stored.{durable_extend}
 use Rattle.dur_hub.proofs.Placing.{lines_same}
 use Rattle.dur_hub.proofs.Leasing.{gone, map_lost}
-use Rattle.dur_hub.proofs.GoodCalls.{good_lease, lost_well, leavers_stand}
+use Rattle.dur_hub.proofs.GoodCalls.{good_lease, leavers_stand}
 use Rattle.dur_hub.proofs.LeftBehind.{leaving_after}
 
 -- the first so many are lost, and more may be

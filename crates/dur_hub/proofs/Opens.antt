@@ -1,9 +1,8 @@
 -- A hub stands for the run that has no call yet.
-use Rattle.std.proofs.Common.{◌≡◌, ℕ, zero, suc, ◌+◌, ◌<◌, ◌≤◌, List, [], ◌∷◌, ◌++◌, length, take, map, get_or, refl, ap, subst, ◌∙◌, sym, Bool, true, false, not, ◌||◌, Some, arith}
-use Rattle.std.specs.Prelude.{◌==◌, ◌&&◌, slice_get, unwrap_or, option_map}
-use Rattle.std.specs.List.{AllByRecursion, list_any}
+use Rattle.std.proofs.Common.{◌≡◌, ℕ, zero, suc, ◌+◌, ◌<◌, List, [], ◌∷◌, ◌++◌, length, take, map, get_or, refl, ap, subst, ◌∙◌, sym, Bool, true, false, arith}
+use Rattle.std.specs.Prelude.{slice_get, unwrap_or}
+use Rattle.std.specs.List.{AllByRecursion}
 use Rattle.std.proofs.lemmas.List.{take_more, map-append}
-use Rattle.dur_base.specs.declared.entry.Entry.{Entry}
 use Rattle.dur_qos.specs.declared.plan.Plan.{Plan}
 use Rattle.dur_qos.specs.declared.plan.Topic.{Topic}
 use Rattle.dur_qos.specs.declared.plan.WriterLine.{WriterLine}
@@ -13,24 +12,22 @@ use Rattle.dur_view.specs.Words.{topic_of}
 use Rattle.dur_view.specs.Past.{no_topic}
 use Rattle.dur_view.specs.Full.{places_of, full}
 use Rattle.dur_view.proofs.TestsDecide.{sound-passes}
-use Rattle.dur_view.specs.History.{History, Start, next as next_in}
+use Rattle.dur_view.specs.History.{Start, next as next_in}
 use Rattle.dur_view.specs.Persistent.{is_persistent, passes_at}
-use Rattle.dur_view.specs.Stored.{is_stored, durable_part}
 use Rattle.rel_reader.specs.Stories.{Begin}
 use Rattle.rel_reader.specs.Windows.{Fits}
-use Rattle.dur_store.specs.Keeps.{Keeps}
 use Rattle.dur_hub.specs.declared.hub.Hub.{Hub}
-use Rattle.dur_hub.specs.declared.left_behind.Leaver.{Leaver}
 use Rattle.dur_hub.specs.declared.line.Line.{Line}
 use Rattle.dur_hub.specs.Telling.{topic_in}
-use Rattle.dur_hub.specs.Runs.{Writer, Run, first_writer, opening}
-use Rattle.dur_hub.specs.Leases.{leavers}
-use Rattle.dur_hub.specs.LeftBehind.{leaver_of, left_from}
+use Rattle.dur_hub.specs.Runs.{Writer, first_writer, opening}
+use Rattle.dur_hub.specs.LeftBehind.{left_from}
 use Rattle.dur_hub.specs.Openings.{MayOpen, WriterStands}
 use Rattle.dur_hub.specs.Replays.{PlacesFit}
+use Rattle.dur_hub.specs.Places.{guids, found, IsIndex}
+use Rattle.dur_hub.proofs.Lookups.{guids_fit}
 use Rattle.dur_hub.specs.Lines.{LineFits, Pairs, LinesFit}
 use Rattle.dur_hub.specs.Queues.{LedgerAt}
-use Rattle.dur_hub.specs.Hubs.{HubAt, Stands}
+use Rattle.dur_hub.specs.Hubs.{Stands}
 use Rattle.dur_hub.proofs.Stored.{next_stored}
 use Rattle.dur_hub.proofs.Declared.{full_opens, places_fit, writers_stand, good_opening}
 use Rattle.dur_hub.proofs.LeftOver.{left_opening}
@@ -105,12 +102,13 @@ lines_more plan v ls ws i line w fit one lt is =
 pub stands_opened : (plan : Plan) (v : View) (working : ℕ) (hub : Hub) → MayOpen plan v
     → hub.plan ≡ plan → LedgerAt hub.ledger (Start (full plan v)) 0 0
     → (AllByRecursion (WriterStands plan (full plan v)) plan.writers → LinesFit plan (Start (full plan v)) 0 hub.lines.items (map (first_writer (full plan v)) plan.writers))
+    → IsIndex (found hub.index) (guids hub.lines.items)
     → hub.places ≡ places_of plan (full plan v).topics
     → hub.leaving.items ≡ left_from plan v 0 v.writers
     → hub.moment ≡ v.last → hub.begun ≡ false → hub.given.items ≡ [] → hub.acks ≡ 0
     → hub.refused ≡ 0 → hub.working ≡ working → hub.stopped ≡ false
     → Stands (opening plan v working) [] hub
-stands_opened plan v working hub may plan_is ledger lines places leaving moment begun given acks refused working_is stopped = record {
+stands_opened plan v working hub may plan_is ledger lines index places leaving moment begun given acks refused working_is stopped = record {
   legal = tt;
   at = record {
     at = record {
@@ -119,10 +117,13 @@ stands_opened plan v working hub may plan_is ledger lines places leaving moment 
       good = good_opening plan v working may;
     };
     plan = plan_is;
+    index =
+        subst (IsIndex (found hub.index)) (guids_fit plan (Start (full plan v)) 0 hub.lines.items (map (first_writer (full plan v)) plan.writers) (lines (writers_stand plan v may))) index;
     places =
         subst (λ l. PlacesFit plan (full plan v).topics l) (sym places) (places_fit plan v may);
     moment = moment;
     begun = begun;
+    due = λ yes1. absurd (let q : false ≡ true = yes1 in cc);
     given = given;
     leaving =
         λ no1. leaving

@@ -1,5 +1,5 @@
 -- Entries become durable, one after another.
-use Rattle.std.proofs.Common.{◌≡◌, ℕ, zero, suc, ◌+◌, ◌<◌, ◌^◌, ◌%◌, List, [], ◌∷◌, ◌++◌, length, take, drop, get_or, map, refl, ap, subst, ◌∙◌, sym, Bool, true, false, cond, Option, Some, None, arith, length-drop}
+use Rattle.std.proofs.Common.{◌≡◌, ◌≢◌, ℕ, zero, suc, ◌+◌, ◌<◌, ◌^◌, ◌%◌, List, [], ◌∷◌, ◌++◌, length, take, drop, get_or, map, refl, ap, subst, ◌∙◌, sym, Bool, true, false, cond, Option, Some, None, arith, length-drop}
 use Rattle.std.proofs.Math.ListN.{set}
 use Rattle.std.specs.Option.{option_to_list}
 use Rattle.dur_base.specs.declared.entry.Entry.{Entry}
@@ -9,16 +9,20 @@ use Rattle.dur_view.specs.Identities.{Guid}
 use Rattle.dur_view.specs.Words.{is_same}
 use Rattle.dur_view.specs.Extend.{extend-push}
 use Rattle.dur_view.specs.Persistent.{persistent_view}
-use Rattle.dur_view.specs.History.{History, Start, start, next, next_by}
+use Rattle.dur_view.specs.History.{History, Start, start, next, next_by, writer_of}
 use Rattle.dur_hub.specs.declared.line.Line.{Line}
 use Rattle.dur_hub.specs.declared.queue.Passed.{Passed}
 use Rattle.dur_hub.specs.declared.queue.Queue.{Queue}
 use Rattle.dur_view.specs.Stored.{stored, durable_part}
 use Rattle.dur_hub.specs.Runs.{Writer}
+use Rattle.dur_hub.specs.GoodRuns.{Out, Apart}
 use Rattle.dur_hub.specs.Lines.{LineFits, Pairs, LinesFit}
+use Rattle.dur_hub.specs.Places.{guids, IsPlaceOf, HasNone}
 use Rattle.dur_hub.specs.Queues.{passed_by, joined, AllFull, Queued}
 use Rattle.rel_reader.specs.Windows.{Fits}
 use Rattle.dur_hub.specs.Marks.{IsAt, passed_number}
+use Rattle.dur_hub.proofs.Guids.{next_other}
+use Rattle.dur_hub.proofs.Lookups.{none_of, other_place}
 use Rattle.dur_hub.proofs.Stored.{over, durable_is}
 
 -- the first i lines fit one way, and the others another way
@@ -113,6 +117,70 @@ line_passed plan h d e w line line' p at is fits guid shape reader lease stor pr
       ∙ passed_is e line.guid line.durable ∙ ap (λ g. next_by e g line.durable) fits.guid
       ∙ ap (next_by e w.line.guid) (fits.durable yes1) ∙ sym (durable_more h d e w.line.guid at);
 }
+
+-- a line of another writer
+line_kept : (plan : Plan) (h : History) (d : ℕ) (e : Entry) (w : Writer) (line : Line)
+    → IsAt (stored h) d e → LineFits plan h d line w → line.guid ≢ writer_of e
+    → LineFits plan h (d + 1) line w
+line_kept plan h d e w line at fits ne = record {
+  guid = fits.guid;
+  shape = fits.shape;
+  reader = fits.reader;
+  lease = fits.lease;
+  stored = fits.stored;
+  proxy = fits.proxy;
+  heard = fits.heard;
+  lost = fits.lost;
+  acks = fits.acks;
+  durable =
+      λ yes1. fits.durable yes1
+      ∙ sym (next_other e w.line.guid (next (durable_part h d) w.line.guid) (λ q. ne (fits.guid ∙ sym q)))
+      ∙ sym (durable_more h d e w.line.guid at);
+}
+
+passed_writer : (e : Entry) → (passed_by e).writer ≡ writer_of e
+passed_writer (Took m u n s) = refl
+passed_writer (Skip m u from to) = refl
+passed_writer (Lost m u) = refl
+
+module _ (plan : Plan) (h : History) (d : ℕ) (e : Entry) (at : IsAt (stored h) d e) where
+  -- the lines of other writers
+  lines_kept : (ls : List Line) (ws : List Writer) → LinesFit plan h d ls ws
+      → HasNone (guids ls) (writer_of e) → LinesFit plan h (d + 1) ls ws
+  lines_kept [] [] fit none = tt
+  lines_kept [] (w ∷ ws) fit none = fit
+  lines_kept (l ∷ ls) [] fit none = fit
+  lines_kept (l ∷ ls) (w ∷ ws) fit none =
+      (line_kept plan h d e w l at fit.0 none.0, lines_kept ls ws fit.1 none.1)
+
+  -- the line of the entry's writer, and the others
+  lines_put : (i : ℕ) (ls : List Line) (ws : List Writer) (x line : Line) → Apart ws
+      → LinesFit plan h d ls ws → IsPlaceOf (guids ls) i (writer_of e)
+      → ((w : Writer) → LineFits plan h d (get_or ls i x) w → LineFits plan h (d + 1) line w)
+      → LinesFit plan h (d + 1) (set ls i line) ws
+  lines_put i [] ws x line apart fit here turn = absurd here
+  lines_put i (l ∷ ls) [] x line apart fit here turn = absurd fit
+  lines_put zero (l ∷ ls) (w ∷ ws) x line apart fit here turn =
+      (turn w fit.0, lines_kept ls ws fit.1 (none_of plan h d (writer_of e) ls ws fit.1 (subst (λ g. Out g ws) (sym fit.0.guid ∙ here) apart.0)))
+  lines_put (suc i) (l ∷ ls) (w ∷ ws) x line apart fit here turn =
+      let ne = other_place plan h d w.line.guid (writer_of e) i ls ws fit.1 apart.0 here in
+      (line_kept plan h d e w l at fit.0 (λ q. ne (sym fit.0.guid ∙ q)), lines_put i ls ws x line apart.1 fit.1 here turn)
+
+  pub none_passed : (p : Passed) (ls : List Line) (ws : List Writer) → p ≡ passed_by e
+      → LinesFit plan h d ls ws → HasNone (guids ls) p.writer → LinesFit plan h (d + 1) ls ws
+  none_passed p ls ws is fit none =
+      lines_kept ls ws fit
+      (subst (HasNone (guids ls)) (ap (λ q. q.writer) is ∙ passed_writer e) none)
+
+  pub one_passed : (p : Passed) (i : ℕ) (ls : List Line) (ws : List Writer) (x line : Line)
+      → p ≡ passed_by e → Apart ws → LinesFit plan h d ls ws → IsPlaceOf (guids ls) i p.writer
+      → x ≡ get_or ls i x
+      → ((w : Writer) → LineFits plan h d x w → LineFits plan h (d + 1) line w)
+      → LinesFit plan h (d + 1) (set ls i line) ws
+  one_passed p i ls ws x line is apart fit here same turn =
+      lines_put i ls ws x line apart fit
+      (subst (IsPlaceOf (guids ls) i) (ap (λ q. q.writer) is ∙ passed_writer e) here)
+      (λ w fits. turn w (subst (λ q. LineFits plan h d q w) (sym same) fits))
 
 empty_any : {X : Type 0} (l : List X) → l ≡ drop 1 l → l ≡ []
 empty_any [] is = refl

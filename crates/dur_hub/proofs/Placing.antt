@@ -1,5 +1,5 @@
 -- One fact, among the lines of the hub.
-use Rattle.std.proofs.Common.{◌≡◌, ℕ, suc, ◌+◌, ◌<◌, ◌≤◌, List, [], ◌∷◌, ◌++◌, length, get_or, refl, ap, subst, ◌∙◌, sym, Bool, true, false, cond, Some, None, arith, append-nil}
+use Rattle.std.proofs.Common.{◌≡◌, ◌≢◌, ℕ, zero, suc, ◌<◌, ◌≤◌, List, [], ◌∷◌, ◌++◌, length, get_or, refl, ap, subst, ◌∙◌, sym, true, false, cond, Option, Some, None, arith, append-nil}
 use Rattle.std.proofs.Math.ListN.{set}
 use Rattle.std.specs.Prelude.{◌&&◌, ◌||◌}
 use Rattle.std.specs.Str.{bytes_eq}
@@ -8,6 +8,7 @@ use Rattle.dur_base.specs.declared.fact.Fact.{Fact}
 use Rattle.dur_base.specs.declared.fact.Fact.TheVariants as fact
 use Rattle.dur_qos.specs.declared.plan.Plan.{Plan}
 use Rattle.dur_qos.specs.Served.{reader_id_of}
+use Rattle.dur_view.specs.Identities.{Guid}
 use Rattle.dur_view.specs.Words.{is_same}
 use Rattle.dur_view.specs.History.{History, ◌+>◌, start, next as next_in}
 use Rattle.rtps_message.specs.Facts.{IsGoodFact}
@@ -25,11 +26,16 @@ use Rattle.dur_view.specs.Stored.{stored, durable_part, is_stored}
 use Rattle.dur_hub.specs.Runs.{Writer, Run}
 use Rattle.dur_hub.specs.Steps.{speaker, HearsBy, LegalStep, spoken, with_speaker}
 use Rattle.dur_hub.specs.Handed.{ack_of}
-use Rattle.dur_hub.specs.GoodRuns.{GoodWriter}
+use Rattle.dur_hub.specs.GoodRuns.{GoodWriter, Out, Apart}
 use Rattle.dur_hub.specs.Lines.{LineFits, LinesFit, step_of, Speaks}
+use Rattle.dur_hub.specs.Looks.{is_late}
+use Rattle.dur_hub.specs.Dues.{is_after, AreDue}
 use Rattle.dur_hub.specs.Hubs.{StandsAt}
-use Rattle.dur_hub.specs.Hearings.{address_of, is_to, place_from, refusal_at, writer_in, OneStep, HearsTo, hearing_of}
-use Rattle.dur_hub.proofs.Guids.{start_extend}
+use Rattle.dur_hub.specs.Places.{guids, guids_of, IsPlaceOf, HasNone, IsIndex}
+use Rattle.dur_hub.specs.Hearings.{address_of, is_to, refusal_at, writer_in, OneStep, HearsTo, hearing_of}
+use Rattle.dur_hub.proofs.Guids.{differs, start_extend}
+use Rattle.dur_hub.proofs.Lookups.{other_place, none_of, index_lines}
+use Rattle.dur_hub.proofs.Dues.{neither, with_due, line_due}
 use Rattle.dur_hub.proofs.Stored.{durable_extend}
 use Rattle.dur_hub.proofs.Speakers.{speaker_in, speaker_good, with_none}
 use Rattle.dur_hub.proofs.GoodCalls.{good_step}
@@ -148,70 +154,98 @@ module _ (plan : Plan) (h : History) (d : ℕ) (f : Fact) (a : Address) (by : ad
         (sym is) here;
   }
 
-  pub picks : (j i : ℕ) (ls : List Line) (ws : List Writer) (x : Line) → LinesFit plan h d ls ws
-      → place_from j ls a ≡ Some i → (k : ℕ) × (i ≡ k + j) × Picked ls ws k x
-  picks j i [] ws x fit is = absurd (cc)
-  picks j i (l ∷ ls) [] x fit is = absurd fit
-  picks j i (l ∷ ls) (w ∷ ws) x fit is =
-      picks_by (is_to l a) refl (λ later. picks (j + 1) i ls ws x fit.1 later) where
-        picks_by : (b : Bool) → is_to l a ≡ b
-            → (place_from (j + 1) ls a ≡ Some i → (k : ℕ) × (i ≡ k + (j + 1)) × Picked ls ws k x)
-            → (k : ℕ) × (i ≡ k + j) × Picked (l ∷ ls) (w ∷ ws) k x
-        picks_by true same more =
-            let at : Some j ≡ Some i =
-            sym (ap (λ b. cond b (Some j) (place_from (j + 1) ls a)) same) ∙ is in
-            let e : j ≡ i = cc in
-            (0, omega arith, picked_here l ls w ws x (sym (is_to_is plan h d l w f a fit.0 by) ∙ same) fit.0 fit.1)
-        picks_by false other more =
-            let there = more (sym (ap (λ b. cond b (Some j) (place_from (j + 1) ls a)) other) ∙ is) in
-            (suc there.0, omega (arith, there.1), picked_next l ls w ws there.0 x (sym (is_to_is plan h d l w f a fit.0 by) ∙ other) fit.0 there.2)
+  not_here : (l : Line) → l.guid ≢ a.writer → is_to l a ≡ false
+  not_here l ne =
+      ap (λ b. b && (bytes_eq a.reader every_reader || bytes_eq a.reader l.reader))
+      (differs l.guid a.writer ne)
 
-  pub not_there : (j : ℕ) (ls : List Line) (ws : List Writer) → LinesFit plan h d ls ws
-      → place_from j ls a ≡ None → speaker_in plan f ws ≡ None
-  not_there j [] [] fit is = refl
-  not_there j [] (w ∷ ws) fit is = absurd fit
-  not_there j (l ∷ ls) [] fit is = absurd fit
-  not_there j (l ∷ ls) (w ∷ ws) fit is =
-      not_by (is_to l a) refl (λ later. not_there (j + 1) ls ws fit.1 later) where
-        not_by : (b : Bool) → is_to l a ≡ b
-            → (place_from (j + 1) ls a ≡ None → speaker_in plan f ws ≡ None)
-            → speaker_in plan f (w ∷ ws) ≡ None
-        not_by true same more =
-            let at : Some j ≡ None =
-            sym (ap (λ b. cond b (Some j) (place_from (j + 1) ls a)) same) ∙ is in
-            absurd (cc)
-        not_by false other more =
-            ap (λ b. cond b (Some w) (speaker_in plan f ws))
-            (sym (is_to_is plan h d l w f a fit.0 by) ∙ other)
-            ∙ more (sym (ap (λ b. cond b (Some j) (place_from (j + 1) ls a)) other) ∙ is)
+  -- the line at a place of the writer, where the address is that of the line
+  pub picks : (i : ℕ) (ls : List Line) (ws : List Writer) (x : Line) → LinesFit plan h d ls ws
+      → Apart ws → IsPlaceOf (guids ls) i a.writer → is_to (get_or ls i x) a ≡ true → Picked ls ws i x
+  picks i [] ws x fit apart at is = absurd at
+  picks i (l ∷ ls) [] x fit apart at is = absurd fit
+  picks zero (l ∷ ls) (w ∷ ws) x fit apart at is =
+      picked_here l ls w ws x (sym (is_to_is plan h d l w f a fit.0 by) ∙ is) fit.0 fit.1
+  picks (suc i) (l ∷ ls) (w ∷ ws) x fit apart at is =
+      let ne = other_place plan h d w.line.guid a.writer i ls ws fit.1 apart.0 at in
+      let no1 = not_here l (λ e. ne (sym fit.0.guid ∙ e)) in
+      picked_next l ls w ws i x (sym (is_to_is plan h d l w f a fit.0 by) ∙ no1) fit.0
+      (picks i ls ws x fit.1 apart.1 at is)
+
+  -- where no line is that of the writer
+  pub not_there : (ls : List Line) (ws : List Writer) → LinesFit plan h d ls ws
+      → HasNone (guids ls) a.writer → speaker_in plan f ws ≡ None
+  not_there [] [] fit none = refl
+  not_there [] (w ∷ ws) fit none = absurd fit
+  not_there (l ∷ ls) [] fit none = absurd fit
+  not_there (l ∷ ls) (w ∷ ws) fit none =
+      ap (λ b. cond b (Some w) (speaker_in plan f ws))
+      (sym (is_to_is plan h d l w f a fit.0 by) ∙ not_here l none.0)
+      ∙ not_there ls ws fit.1 none.1
+
+  -- where the line of the writer is that of another reader
+  pub not_for_it : (i : ℕ) (ls : List Line) (ws : List Writer) (x : Line) → LinesFit plan h d ls ws
+      → Apart ws → IsPlaceOf (guids ls) i a.writer → is_to (get_or ls i x) a ≡ false
+      → speaker_in plan f ws ≡ None
+  not_for_it i [] ws x fit apart at is = absurd at
+  not_for_it i (l ∷ ls) [] x fit apart at is = absurd fit
+  not_for_it zero (l ∷ ls) (w ∷ ws) x fit apart at is =
+      ap (λ b. cond b (Some w) (speaker_in plan f ws))
+      (sym (is_to_is plan h d l w f a fit.0 by) ∙ is)
+      ∙ not_there ls ws fit.1
+      (none_of plan h d a.writer ls ws fit.1 (subst (λ g. Out g ws) (sym fit.0.guid ∙ at) apart.0))
+  not_for_it (suc i) (l ∷ ls) (w ∷ ws) x fit apart at is =
+      let ne = other_place plan h d w.line.guid a.writer i ls ws fit.1 apart.0 at in
+      ap (λ b. cond b (Some w) (speaker_in plan f ws))
+      (sym (is_to_is plan h d l w f a fit.0 by) ∙ not_here l (λ e. ne (sym fit.0.guid ∙ e)))
+      ∙ not_for_it i ls ws x fit.1 apart.1 at is
 
 -- a fact of a writer of the plan
-pub one_step : (l : Ledger) (ls : List Line) (m i : ℕ) (f : Fact) (a : Address) (x : Heeded) (notes mid : Notes) (l' : Ledger) (line line' : Line) (notes' : Notes)
-    → IsGoodFact f → address_of f ≡ Some a → place_from 0 ls a ≡ Some i → line ≡ get_or ls i line
-    → (speaks : Speaks l line m f x l' line')
+pub one_step : (l : Ledger) (ls : List Line) (index : Guid → Option ℕ) (m i : ℕ) (f : Fact) (a : Address) (x : Heeded) (notes mid : Notes) (l' : Ledger) (line line' : Line) (notes' : Notes)
+    → IsGoodFact f → address_of f ≡ Some a
+    → (IsIndex index (guids ls) → IsPlaceOf (guids ls) i a.writer) → is_to line a ≡ true
+    → line ≡ get_or ls i line → (speaks : Speaks l line m f x l' line')
     → mid.acks.items ≡ notes.acks.items → mid.refused.items ≡ notes.refused.items
     → notes'.acks.items ≡ mid.acks.items ++ ack_of x.ack
     → notes'.refused.items ≡ mid.refused.items ++ refusal_at a.writer x.end
-    → OneStep l ls m f notes l' (set ls i line') notes' (step_of f speaks.entries x)
-one_step l ls m i f a x notes mid l' line line' notes' fine by place at speaks acks0 refused0 acks refused = record {
+    → ((now : ℕ) → is_after notes'.due now ≡ (is_after notes.due now || is_late line' now))
+    → OneStep l ls index m f notes l' (set ls i line') notes' (step_of f speaks.entries x)
+one_step l ls index m i f a x notes mid l' line line' notes' fine by place own at speaks acks0 refused0 acks refused due = record {
   fact = refl;
   acks = acks ∙ ap (λ k. k ++ ack_of x.ack) acks0;
   refused =
       refused ∙ ap (λ k. k ++ refusal_at a.writer x.end) refused0
       ∙ ap (λ o. notes.refused.items ++ refusal_at (writer_in o) x.end) (sym by);
-  holds = λ r st is.
+  due = λ r st ix is all.
+      let p =
+      picks r.plan r.history r.durable f a by i ls r.writers line st.lines st.good.apart
+      (place (index_lines r.plan r.history r.durable index ls r.writers st.lines ix))
+      (subst (λ q. is_to q a ≡ true) at own) in
+      let w : Writer = p.writer in
+      let step : Step = step_of f speaks.entries x in
+      let fits : LineFits r.plan r.history r.durable line w =
+      subst (λ q. LineFits r.plan r.history r.durable q w) (sym at) p.fits in
+      let good : GoodWriter r.history r.plan w =
+      speaker_good r.plan f r.history r.writers w st.good.writers p.found in
+      let b = speaks.holds r w st.ledger fits good st.good.history st.good.early is in
+      let ends : (now : ℕ) → is_after notes'.due now ≡ false
+      → (is_after notes.due now ≡ false) × (is_late line' now ≡ false) =
+      λ now no1. neither (is_after notes.due now) (is_late line' now) (sym (due now) ∙ no1) in
+      with_due r.plan f notes'.due notes.due (spoken r step) r.writers w p.found
+      (λ now no1. (ends now no1).0) all
+      (line_due r.plan (r.history +> speaks.entries) r.durable notes'.due line' (spoken r step w) b.2 (λ now no1. (ends now no1).1));
+  holds = λ r st ix is.
       let d : ℕ = r.durable in
       let es : List Entry = speaks.entries in
       let h' : History = r.history +> es in
       let step : Step = step_of f es x in
-      let there = picks r.plan r.history d f a by 0 i ls r.writers line st.lines place in
-      let k : ℕ = there.0 in
-      let p = there.2 in
+      let p =
+      picks r.plan r.history d f a by i ls r.writers line st.lines st.good.apart
+      (place (index_lines r.plan r.history r.durable index ls r.writers st.lines ix))
+      (subst (λ q. is_to q a ≡ true) at own) in
       let w : Writer = p.writer in
-      let e : k ≡ i = omega (arith, there.1) in
-      let here : get_or ls k line ≡ line = ap (λ n. get_or ls n line) e ∙ sym at in
       let fits : LineFits r.plan r.history d line w =
-      subst (λ q. LineFits r.plan r.history d q w) here p.fits in
+      subst (λ q. LineFits r.plan r.history d q w) (sym at) p.fits in
       let good : GoodWriter r.history r.plan w =
       speaker_good r.plan f r.history r.writers w st.good.writers p.found in
       let b = speaks.holds r w st.ledger fits good st.good.history st.good.early is in
@@ -221,54 +255,66 @@ one_step l ls m i f a x notes mid l' line line' notes' fine by place at speaks a
         legal,
         record {
           ledger = b.1;
-          lines =
-              subst
-              (λ n. LinesFit r.plan h' d (set ls n line') (with_speaker r.plan f (spoken r step) r.writers))
-              e (p.put h' line' (spoken r step) same b.2);
+          lines = p.put h' line' (spoken r step) same b.2;
           good = good_step r step st.good fine legal;
         },
       );
 }
 
 -- a fact that is none of a writer of the plan
-pub no_step : (l : Ledger) (ls : List Line) (m : ℕ) (f : Fact) (notes : Notes) → IsGoodFact f
-    → ((r : Run) → StandsAt l ls r → speaker r f ≡ None)
-    → OneStep l ls m f notes l ls notes record {
+pub no_step : (l : Ledger) (ls : List Line) (index : Guid → Option ℕ) (m : ℕ) (f : Fact) (notes : Notes) → IsGoodFact f
+    → ((r : Run) → StandsAt l ls r → IsIndex index (guids_of r.writers) → speaker r f ≡ None)
+    → OneStep l ls index m f notes l ls notes record {
       fact = f;
       entries = [];
       end = Waits;
       ack = None;
     }
-no_step l ls m f notes fine out = record {
+no_step l ls index m f notes fine out = record {
   fact = refl;
   acks = sym (append-nil notes.acks.items);
   refused = sym (append-nil notes.refused.items);
-  holds = λ r st is.
+  due = λ r st ix is all.
       let step : Step = record { fact = f; entries = []; end = Waits; ack = None } in
-      let legal : LegalStep r step = subst (HearsBy r step) (sym (out r st)) (refl, refl, refl) in (
+      subst (AreDue notes.due) (sym (with_none r.plan f (spoken r step) r.writers (out r st ix))) all;
+  holds = λ r st ix is.
+      let step : Step = record { fact = f; entries = []; end = Waits; ack = None } in
+      let legal : LegalStep r step = subst (HearsBy r step) (sym (out r st ix)) (refl, refl, refl) in (
         legal,
         record {
           ledger = st.ledger;
           lines =
               subst (λ ws. LinesFit r.plan r.history r.durable ls ws)
-              (sym (with_none r.plan f (spoken r step) r.writers (out r st))) st.lines;
+              (sym (with_none r.plan f (spoken r step) r.writers (out r st ix))) st.lines;
           good = good_step r step st.good fine legal;
         },
       );
 }
 
-pub unknown : (l : Ledger) (ls : List Line) (f : Fact) (a : Address) → address_of f ≡ Some a
-    → place_from 0 ls a ≡ None → (r : Run) → StandsAt l ls r → speaker r f ≡ None
-unknown l ls f a by is r st = not_there r.plan r.history r.durable f a by 0 ls r.writers st.lines is
+pub unknown : (l : Ledger) (ls : List Line) (index : Guid → Option ℕ) (f : Fact) (a : Address)
+    → address_of f ≡ Some a → (IsIndex index (guids ls) → HasNone (guids ls) a.writer)
+    → (r : Run) → StandsAt l ls r → IsIndex index (guids_of r.writers) → speaker r f ≡ None
+unknown l ls index f a by none r st ix =
+    not_there r.plan r.history r.durable f a by ls r.writers st.lines
+    (none (index_lines r.plan r.history r.durable index ls r.writers st.lines ix))
+
+pub not_heard : (l : Ledger) (ls : List Line) (index : Guid → Option ℕ) (f : Fact) (a : Address)
+    (i : ℕ) (line : Line)
+    → address_of f ≡ Some a → (IsIndex index (guids ls) → IsPlaceOf (guids ls) i a.writer)
+    → is_to (get_or ls i line) a ≡ false
+    → (r : Run) → StandsAt l ls r → IsIndex index (guids_of r.writers) → speaker r f ≡ None
+not_heard l ls index f a i line by place other r st ix =
+    not_for_it r.plan r.history r.durable f a by i ls r.writers line st.lines st.good.apart
+    (place (index_lines r.plan r.history r.durable index ls r.writers st.lines ix)) other
 
 -- a step is whole or cut off by its end
-pub heard_as : (l : Ledger) (ls : List Line) (m : ℕ) (f : Fact) (notes : Notes) (hearing : Hearing)
+pub heard_as : (l : Ledger) (ls : List Line) (index : Guid → Option ℕ) (m : ℕ) (f : Fact) (notes : Notes) (hearing : Hearing)
     (end : End) (l' : Ledger) (ls' : List Line) (notes' : Notes) (step : Step)
-    → hearing ≡ hearing_of end → step.end ≡ end → OneStep l ls m f notes l' ls' notes' step
-    → HearsTo l ls m f notes hearing l' ls' notes'
-heard_as l ls m f notes hearing end l' ls' notes' step at is one =
-    subst (λ x. HearsTo l ls m f notes x l' ls' notes') (sym at) (as_by end is) where
-      as_by : (x : End) → step.end ≡ x → HearsTo l ls m f notes (hearing_of x) l' ls' notes'
+    → hearing ≡ hearing_of end → step.end ≡ end → OneStep l ls index m f notes l' ls' notes' step
+    → HearsTo l ls index m f notes hearing l' ls' notes'
+heard_as l ls index m f notes hearing end l' ls' notes' step at is one =
+    subst (λ x. HearsTo l ls index m f notes x l' ls' notes') (sym at) (as_by end is) where
+      as_by : (x : End) → step.end ≡ x → HearsTo l ls index m f notes (hearing_of x) l' ls' notes'
       as_by Waits e = (step, one, λ q. (let p = sym e ∙ q in cc))
       as_by (Refuses n limit) e = (step, one, λ q. (let p = sym e ∙ q in cc))
       as_by Stopped e = (step, one, e)

@@ -1,5 +1,5 @@
 -- A `snapshot` is one legal event.
-use Rattle.std.proofs.Common.{◌≡◌, ℕ, zero, suc, get_or, ◌+◌, ◌≤◌, ◌<◌, List, [], ◌∷◌, ◌++◌, length, map, refl, ap, subst, ◌∙◌, sym, Bool, true, false, cond, not, Option, Some, None, arith}
+use Rattle.std.proofs.Common.{◌≡◌, ℕ, zero, suc, get_or, ◌≤◌, ◌<◌, List, [], ◌∷◌, ◌++◌, length, map, refl, ap, subst, ◌∙◌, sym, Bool, true, false, cond, not, Option, Some, None, arith}
 use Rattle.std.specs.Prelude.{Ok, Err, slice_get, option_map, option_and_then, unwrap_or}
 use Rattle.std.proofs.lemmas.List.{length-map}
 use Rattle.dur_qos.specs.declared.plan.Plan.{Plan}
@@ -7,12 +7,11 @@ use Rattle.dur_qos.specs.declared.plan.Topic.{Topic}
 use Rattle.dur_qos.specs.declared.plan.ReaderLine.{ReaderLine}
 use Rattle.dur_qos.specs.Plan.{place_of}
 use Rattle.dur_view.specs.Identities.{Guid}
-use Rattle.dur_view.specs.History.{History, start, moment}
+use Rattle.dur_view.specs.History.{History, start}
 use Rattle.dur_view.specs.Past.{past}
 use Rattle.dur_view.specs.Snapshot.{snap}
 use Rattle.dur_view.specs.Full.{topic_place}
 use Rattle.dur_store.specs.Keeps.{Keeps}
-use Rattle.dur_view.specs.declared.change.Change.{Change}
 use Rattle.dur_view.specs.declared.change.Snapshot.{Snapshot}
 use Rattle.dur_hub.specs.declared.event.Event.TheVariants as call
 use Rattle.dur_hub.specs.declared.hub.Hub.{Hub}
@@ -20,7 +19,7 @@ use Rattle.dur_hub.specs.declared.reply.SnapFault.{SnapFault}
 use Rattle.dur_hub.specs.declared.reply.SnapFault.TheVariants as fault
 use Rattle.dur_hub.specs.Runs.{Run}
 use Rattle.dur_hub.specs.Leases.{is_among, leavers, after_lease, at_moment}
-use Rattle.dur_hub.specs.Replays.{PlacesFit, is_served, reader_line, is_served_in, refusal_by, refusal, listing, replay_by, IsReplay, MayReplay}
+use Rattle.dur_hub.specs.Replays.{PlacesFit, is_served, reader_line, is_served_in, refusal_by, refusal, listing, replay_by, MayReplay}
 use Rattle.dur_hub.specs.Legal.{LegalSnapshot, after_snapshot}
 use Rattle.dur_hub.specs.Hubs.{HubAt, Adds}
 use Rattle.dur_hub.specs.Answers.{Begins}
@@ -93,9 +92,11 @@ given_one mid new r g is given here = subst (λ k. HubAt k (record r { given = r
         good = good_given r (r.given ++ g ∷ []) here.at.good;
       };
       plan = here.plan;
+      index = here.index;
       places = here.places;
       moment = here.moment;
       begun = here.begun;
+      due = here.due;
       given = given ∙ ap (λ l. l ++ g ∷ []) here.given;
       leaving = here.leaving;
       acks = here.acks;
@@ -111,9 +112,11 @@ same_given mid new r is given here = subst (λ k. HubAt k r) (sym is) (
     record {
       at = record { ledger = here.at.ledger; lines = here.at.lines; good = here.at.good };
       plan = here.plan;
+      index = here.index;
       places = here.places;
       moment = here.moment;
       begun = here.begun;
+      due = here.due;
       given = given ∙ here.given;
       leaving = here.leaving;
       acks = here.acks;

@@ -1,21 +1,16 @@
 -- Acknowledgements (DDSI-RTPS 8.3.8.1).
-use Rattle.std.specs.Prelude.{◌≡◌, ℕ, ◌+◌, ◌^◌, ◌%◌, Bool, not, ◌||◌, ◌==◌, if◌then◌else◌, nat_le, Option, Some, None}
+use Rattle.std.specs.Prelude.{◌≡◌, ℕ, ◌+◌, ◌^◌, ◌%◌, not, ◌||◌, ◌==◌, if◌then◌else◌, nat_le, Option, Some, None}
 use Rattle.dur_base.specs.declared.fact.Fact.{Fact}
 use Rattle.dur_base.specs.declared.fact.Fact.TheVariants as fact
 use Rattle.dur_base.specs.NumberSets.{names}
 use Rattle.dur_qos.specs.declared.plan.Plan.{Plan}
 use Rattle.dur_qos.specs.Served.{reader_id_of}
-use Rattle.dur_view.specs.Identities.{Guid}
-use Rattle.dur_view.specs.declared.data.View.{View}
-use Rattle.dur_view.specs.Words.{topic_of}
-use Rattle.dur_view.specs.History.{History, start, next}
-use Rattle.dur_view.specs.Persistent.{passes_at, is_persistent}
+use Rattle.dur_view.specs.History.{History, next}
 use Rattle.rel_reader.specs.Stories.{Story}
 use Rattle.rel_reader.specs.MissingNumbers.{is_missing}
 use Rattle.dur_hub.specs.declared.event.End.{End}
 use Rattle.dur_hub.specs.declared.event.End.TheVariants.{Waits, Refuses, Stopped}
 use Rattle.dur_hub.specs.declared.reply.Ack.{Ack}
-use Rattle.dur_view.specs.Stored.{durable_part}
 use Rattle.dur_view.specs.Stored.{ack_base}
 use Rattle.dur_hub.specs.Runs.{Writer}
 

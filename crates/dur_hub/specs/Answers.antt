@@ -1,6 +1,7 @@
 -- What the reply of a `receive` tells of its event.
-use Rattle.std.specs.Prelude.{◌≡◌, ℕ, Bool, true, List, [], ◌++◌, length}
+use Rattle.std.specs.Prelude.{◌≡◌, ℕ, Bool, true, Option, List, [], ◌++◌, length}
 use Rattle.dur_base.specs.declared.fact.Fact.{Fact}
+use Rattle.dur_view.specs.Identities.{Guid}
 use Rattle.dur_hub.specs.declared.event.Event.{Event}
 use Rattle.dur_hub.specs.declared.event.Event.TheVariants as call
 use Rattle.dur_hub.specs.declared.event.Step.{Step}
@@ -12,7 +13,8 @@ use Rattle.dur_hub.specs.Runs.{Run}
 use Rattle.dur_hub.specs.Steps.{LegalSteps, after_steps}
 use Rattle.dur_hub.specs.Handed.{acks_of}
 use Rattle.dur_hub.specs.Legal.{AllWhole, IsLeft, facts_of}
-use Rattle.dur_hub.specs.Hearings.{refusals_of}
+use Rattle.dur_hub.specs.Places.{guids_of, IsIndex}
+use Rattle.dur_hub.specs.Hearings.{refusals_of, KeepsDue}
 use Rattle.dur_hub.specs.Leases.{leavers, after_lease, at_moment}
 use Rattle.dur_hub.specs.LeftBehind.{AreLost}
 use Rattle.dur_hub.specs.Hubs.{StandsAt, HubAt}
@@ -33,13 +35,14 @@ TellsReceive m facts reply (call.Receive at lost steps cut stopped) =
 TellsReceive m facts reply e = ⊥
 
 -- What the facts of a call do, and its answer.
-pub record Answers (l : Ledger) (ls : List Line) (m : ℕ) (facts : List Fact) (reply : Received) (l' : Ledger) (ls' : List Line) : Type 0 where
+pub record Answers (l : Ledger) (ls : List Line) (index : Guid → Option ℕ) (due : Option ℕ) (m : ℕ) (facts : List Fact) (reply : Received) (l' : Ledger) (ls' : List Line) (due' : Option ℕ) : Type 0 where
   pub steps : List Step
   pub cut : List Step
   pub tells : TellsOf facts reply steps cut
   pub whole : AllWhole steps
-  pub holds : (r : Run) → StandsAt l ls r → r.moment ≡ m
+  pub holds : (r : Run) → StandsAt l ls r → IsIndex index (guids_of r.writers) → r.moment ≡ m
       → LegalSteps r (steps ++ cut) × StandsAt l' ls' (after_steps r (steps ++ cut))
+  pub until : KeepsDue l ls index m due due' (steps ++ cut)
 
 -- the answer of a call that did no more than its lease step, for want of memory
 pub record IsStopped (reply : Received) : Type 0 where

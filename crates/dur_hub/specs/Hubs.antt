@@ -1,5 +1,5 @@
 -- The hub that stands for a legal list of calls.
-use Rattle.std.specs.Prelude.{◌≡◌, ◌%◌, ◌^◌, List, [], ◌∷◌, ◌++◌}
+use Rattle.std.specs.Prelude.{◌≡◌, ◌%◌, ◌^◌, true, List, [], ◌∷◌, ◌++◌}
 use Rattle.dur_hub.specs.declared.event.Event.{Event}
 use Rattle.dur_hub.specs.declared.hub.Hub.{Hub}
 use Rattle.dur_hub.specs.declared.ledger.Ledger.{Ledger}
@@ -9,6 +9,8 @@ use Rattle.dur_hub.specs.Runs.{Run}
 use Rattle.dur_hub.specs.Replays.{PlacesFit}
 use Rattle.dur_hub.specs.LeftBehind.{AreLeaving}
 use Rattle.dur_hub.specs.Legal.{Legal, run_after}
+use Rattle.dur_hub.specs.Dues.{AreDue}
+use Rattle.dur_hub.specs.Places.{guids_of, found, IsIndex}
 use Rattle.dur_hub.specs.Lines.{LinesFit}
 use Rattle.dur_hub.specs.Queues.{LedgerAt}
 use Rattle.dur_hub.specs.GoodRuns.{IsGoodRun}
@@ -23,9 +25,11 @@ pub record StandsAt (l : Ledger) (ls : List Line) (r : Run) : Type 0 where
 pub record HubAt (hub : Hub) (r : Run) : Type 0 where
   pub at : StandsAt hub.ledger hub.lines.items r
   pub plan : hub.plan ≡ r.plan
+  pub index : IsIndex (found hub.index) (guids_of r.writers)
   pub places : PlacesFit r.plan (start r.history).topics hub.places
   pub moment : hub.moment ≡ r.moment
   pub begun : hub.begun ≡ r.begun
+  pub due : r.begun ≡ true → AreDue hub.due r.writers
   pub given : hub.given.items ≡ r.given
   pub leaving : AreLeaving r hub.leaving.items
   pub acks : hub.acks ≡ r.acks % 2 ^ 64

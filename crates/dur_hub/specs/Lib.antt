@@ -14,6 +14,8 @@ pub mod Workers
 pub mod Queues
 pub mod Drains
 pub mod Lines
+pub mod Dues
+pub mod Places
 pub mod Hubs
 pub mod Openings
 pub mod Marks

@@ -1,5 +1,5 @@
 -- The lease step, line by line.
-use Rattle.std.specs.Prelude.{◌≡◌, ℕ, zero, suc, ◌+◌, ◌<◌, Bool, true, false, not, ◌&&◌, if◌then◌else◌, List, [], ◌∷◌, length}
+use Rattle.std.specs.Prelude.{◌≡◌, ℕ, zero, suc, ◌+◌, Bool, true, not, ◌&&◌, if◌then◌else◌, List, [], ◌∷◌, length}
 use Rattle.dur_hub.specs.declared.ledger.Ledger.{Ledger}
 use Rattle.dur_hub.specs.declared.left_behind.Leaver.{Leaver}
 use Rattle.dur_hub.specs.declared.line.Line.{Line}

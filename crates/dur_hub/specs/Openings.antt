@@ -1,8 +1,7 @@
 -- What a hub may be opened with.
-use Rattle.std.specs.Prelude.{◌≡◌, ◌≤◌, true, Some, List, All, Contains, length, unwrap_or, slice_get}
+use Rattle.std.specs.Prelude.{◌≡◌, ◌≤◌, true, Some, All, Contains, length, unwrap_or, slice_get}
 use Rattle.dur_qos.specs.Good.{GoodPlan}
 use Rattle.dur_qos.specs.declared.plan.Plan.{Plan}
-use Rattle.dur_qos.specs.declared.plan.Topic.{Topic}
 use Rattle.dur_qos.specs.declared.plan.WriterLine.{WriterLine}
 use Rattle.dur_view.specs.declared.data.KeptWriter.{KeptWriter}
 use Rattle.dur_view.specs.declared.data.View.{View}

@@ -1,5 +1,5 @@
 -- Which reader gets a snapshot, and what stands in it (DDS 2.2.3.4, DURABILITY).
-use Rattle.std.specs.Prelude.{◌≡◌, ℕ, Bool, ◌&&◌, if◌then◌else◌, not, nat_le, false, ◌<◌, length, Ok, Err, Option, Some, None, option_map, unwrap_or, slice_get, List, find, map}
+use Rattle.std.specs.Prelude.{◌≡◌, ℕ, Bool, ◌&&◌, if◌then◌else◌, not, nat_le, false, ◌<◌, length, Ok, Err, Option, Some, None, option_map, unwrap_or, slice_get, List, find}
 use Rattle.std.specs.declared.result.Result.{Result}
 use Rattle.dur_qos.specs.declared.plan.Plan.{Plan}
 use Rattle.dur_qos.specs.declared.plan.Topic.{Topic}

@@ -1,14 +1,11 @@
 -- A run of the hub: where a list of calls has led.
-use Rattle.std.specs.Prelude.{ℕ, Bool, false, List, [], map, take}
-use Rattle.dur_base.specs.declared.entry.Entry.{Entry}
+use Rattle.std.specs.Prelude.{ℕ, Bool, false, List, [], map}
 use Rattle.dur_qos.specs.declared.plan.Plan.{Plan}
 use Rattle.dur_qos.specs.declared.plan.WriterLine.{WriterLine}
 use Rattle.dur_view.specs.Identities.{Guid}
 use Rattle.dur_view.specs.declared.data.View.{View}
-use Rattle.dur_view.specs.History.{History, Start, ◌+>◌, start, next}
-use Rattle.dur_view.specs.Extend.{entries_of}
+use Rattle.dur_view.specs.History.{History, Start, next}
 use Rattle.dur_view.specs.Full.{full}
-use Rattle.dur_view.specs.Persistent.{persistent}
 use Rattle.rel_reader.specs.Stories.{Story, Begin}
 
 -- A writer of the plan: its line, all that ever came of it, when it was heard last, whether it is lost, and how many

@@ -47,6 +47,6 @@ impl Hub {
             → Stands start (log ++ Mark upto ∷ []) self.new }
     {
         let count = upto.wrapping_sub(self.ledger.queue.durable);
-        pass_all(&mut self.ledger.queue, &mut self.lines, count);
+        pass_all(&mut self.ledger.queue, &mut self.lines, &self.index, count);
     }
 }

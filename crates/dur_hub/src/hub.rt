@@ -5,22 +5,25 @@ ghost use Rattle.dur_hub.specs.declared.event.Event.{Event};
 ghost use Rattle.dur_hub.specs.Runs.{opening};
 ghost use Rattle.dur_hub.specs.Openings.{MayOpen};
 ghost use Rattle.dur_hub.specs.Hubs.{Stands, Adds};
+ghost use Rattle.dur_hub.specs.Places.{found};
 ghost use Rattle.dur_hub.specs.Answers.{Answers, TellsReceive, Begins, AnswersFacts, IsStopped};
 ghost use Rattle.rtps_message.specs.Facts.{AreGood};
 
 use crate::Received;
+use crate::due::{first_end, is_after};
 use crate::lease::lease_step;
 use crate::ledger::Ledger;
 use crate::left_behind::{Leaver, left_behind};
 use crate::line::{Line, lines_of};
 use crate::notes::Notes;
+use crate::places::index_of;
 use crate::receiving::hear_all;
 use dur_base::{Fact, Guid, List, OutOfMemory, Ticks, later};
 use dur_qos::Plan;
 use dur_store::Store;
 use dur_view::View;
 use std::alloc::Global;
-use std::collections::VecDeque;
+use std::collections::{HashMap, VecDeque};
 
 /// One hub. Contracts tell it by the lists of calls that it stands for (`Stands`).
 #[derive(Drop)]
@@ -29,12 +32,16 @@ pub struct Hub {
     pub(crate) ledger: Ledger,
     /// The writers of the plan, in its order.
     pub(crate) lines: Vec<Line>,
+    /// The places of the lines by the GUIDs of their writers.
+    pub(crate) index: HashMap<[u8; 16], usize>,
     /// The store's place of each topic of the plan.
     pub(crate) places: List<u32>,
     /// The last moment that was used.
     pub(crate) moment: Ticks,
     /// Whether the first lease step is done.
     pub(crate) begun: bool,
+    /// Up to when no lease ends, in ticks, once it is. None: none ever does.
+    pub(crate) due: Option<u128>,
     /// The readers to whom a snapshot was given.
     pub(crate) given: Vec<Guid>,
     /// Those that the first lease step still has to lose.
@@ -60,7 +67,7 @@ fn answer(notes: Notes, handled: usize, stopped: bool) -> Received
     ensures { (result.acks ≡ notes.acks.items) × (result.refused ≡ notes.refused.items)
         × (result.handled ≡ handled) × (result.stopped ≡ stopped) }
 {
-    let Notes { acks, refused } = notes;
+    let Notes { acks, refused, .. } = notes;
     Received {
         acks: List::of(acks),
         refused: List::of(refused),
@@ -73,18 +80,22 @@ fn answer(notes: Notes, handled: usize, stopped: bool) -> Received
 fn answer_facts(
     ledger: &mut Ledger,
     lines: &mut [Line],
+    index: &HashMap<[u8; 16], usize>,
+    due: &mut Option<u128>,
     alloc: Global,
     moment: Ticks,
     facts: List<Fact>,
 ) -> Received
     requires { AreGood facts }
-    ensures { Answers ledger.old lines.old moment facts result ledger.new lines.new }
+    ensures { Answers ledger.old lines.old (found index.now) due.old moment facts result ledger.new lines.new due.new }
 {
     let mut notes = Notes {
         acks: Vec::new(alloc),
         refused: Vec::new(alloc),
+        due: *due,
     };
-    let heard = hear_all(ledger, lines, moment, facts.into_vec(), &mut notes);
+    let heard = hear_all(ledger, lines, index, moment, facts.into_vec(), &mut notes);
+    *due = notes.due;
     answer(notes, heard.handled, heard.stopped)
 }
 
@@ -111,13 +122,16 @@ impl Hub {
         let store = Store::of_view(alloc, &plan, view)?;
         let places = store.places(&plan)?;
         let lines = lines_of(alloc, &plan, &store)?;
+        let index = index_of(alloc, &lines)?;
         Ok(Hub {
             plan,
             ledger: Ledger::new(alloc, store),
             lines,
+            index,
             places,
             moment,
             begun: false,
+            due: None,
             given: Vec::new(alloc),
             leaving,
             acks: 0,
@@ -127,12 +141,15 @@ impl Hub {
         })
     }
 
-    /// The lease step at the moment that the call uses. False: there was no memory for one of its losses.
+    /// The lease step at the moment that the call uses, where a lease may have ended by then. False: there was no memory for one of its losses.
     pub(crate) fn begin(&mut self, moment: Ticks) -> bool
         ensures { Begins self.old moment result self.new }
     {
         let used = later(self.moment, moment);
         self.moment = used;
+        if self.begun && !is_after(self.due, used) {
+            return true;
+        }
         let whole = lease_step(
             &mut self.ledger,
             &mut self.lines,
@@ -140,6 +157,7 @@ impl Hub {
             &mut self.leaving,
             used,
         );
+        self.due = first_end(&self.lines);
         self.begun = either(self.begun, whole);
         whole
     }
@@ -149,7 +167,15 @@ impl Hub {
         requires { AreGood facts }
         ensures { AnswersFacts self.old facts result self.new }
     {
-        let reply = answer_facts(&mut self.ledger, &mut self.lines, alloc, self.moment, facts);
+        let reply = answer_facts(
+            &mut self.ledger,
+            &mut self.lines,
+            &self.index,
+            &mut self.due,
+            alloc,
+            self.moment,
+            facts,
+        );
         self.acks = self.acks.wrapping_add(reply.acks.len() as u64);
         self.refused = self.refused.wrapping_add(reply.refused.len() as u64);
         reply

@@ -3,6 +3,7 @@
 
 mod batches;
 mod drain;
+mod due;
 mod event;
 mod hearing;
 mod heeding;

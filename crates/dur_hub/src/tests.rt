@@ -108,6 +108,33 @@ fn a_silent_writer_is_lost_after_its_lease(rt: HostRuntime) {
     assert!(rt; reply.refused.len() == 0 && hub.counts().entries == 4);
 }
 
+// A writer of which 2 s are counted from its last datagram, before it was lost and after it.
+#[test]
+fn a_lease_counts_from_the_last_datagram(rt: HostRuntime) {
+    let alloc = rt.alloc();
+    let text =
+        b"prefix 0102030405060708\ntopic T transient hash 3 - - - - 0\nwriter a1a1a1a1a1a1a1a1a1a1a1a100000102 T 2\nend\n";
+    let mut hub = opened(alloc, text).expect(&rt, "memory");
+    let _reply = hears(&mut hub, alloc, 0, data(1, AA)).expect(&rt, "memory");
+    // At the end of its lease it is heard, which moves the end; the moment after that is past the old one.
+    let _reply = hears(&mut hub, alloc, 8_589_934_592, data(2, AA)).expect(&rt, "memory");
+    for (moment, entries) in [
+        (8_589_934_593, 2),
+        (17_179_869_184, 2),
+        (17_179_869_185, 3),
+        (25_769_803_777, 3),
+    ] {
+        let reply = hub.tick(alloc, Ticks(moment));
+        assert!(rt; !reply.stopped && hub.counts().entries == entries);
+    }
+    // It is there again, and has a lease again.
+    let _reply = hears(&mut hub, alloc, 30_000_000_000, data(3, AA)).expect(&rt, "memory");
+    for (moment, entries) in [(38_589_934_592, 4), (38_589_934_593, 5)] {
+        let reply = hub.tick(alloc, Ticks(moment));
+        assert!(rt; !reply.stopped && hub.counts().entries == entries);
+    }
+}
+
 #[test]
 fn a_writer_that_is_left_behind_is_lost_first(rt: HostRuntime) {
     let alloc = rt.alloc();

@@ -1,4 +1,4 @@
-use Rattle.std.proofs.Common.{◌≡◌, ◌<◌, ℕ, take, false, get_or, length, vec_len}
+use Rattle.std.proofs.Common.{◌≡◌, ◌<◌, ℕ, take, false, get_or, length}
 use Rattle.std.specs.Prelude.{◌==◌}
 use Rattle.std.specs.List.{list_any}
 use Rattle.dur_view.specs.declared.data.Instance.{Instance}

@@ -8,4 +8,4 @@ returns c =
     answers_facts c.args.self.now _ _ _ _ _ c.deref_mut.ensures.value
     (with_items_is c.args.self.now.lines c.answer_facts-reply.new.lines (omega arith))
     c.answer_facts-reply.ensures
-    record { plan = refl; places = refl; working = refl; stopped = refl } refl refl refl (omega arith) (omega arith)
+    record { plan = refl; index = refl; places = refl; working = refl; stopped = refl } refl refl refl (omega arith) (omega arith)

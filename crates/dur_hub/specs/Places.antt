@@ -1,0 +1,39 @@
+-- Where the line of a writer stands.
+use Rattle.std.specs.Prelude.{◌≡◌, ◌≢◌, ℕ, zero, suc, Option, Some, None, List, [], ◌∷◌, map}
+use Rattle.std.specs.List.{AllByRecursion}
+use Rattle.std.specs.Str.{bytes_eq}
+use Rattle.std.specs.HashMap as hash
+use Rattle.std.specs.HashMap.{HashMap}
+use Rattle.dur_view.specs.Identities.{Guid}
+use Rattle.dur_hub.specs.declared.line.Line.{Line}
+use Rattle.dur_hub.specs.Runs.{Writer}
+
+-- the writers of lines
+abbrev pub guids : List Line → List Guid
+guids ls = map (λ l. l.guid) ls
+
+abbrev pub guids_of : List Writer → List Guid
+guids_of ws = map (λ w. w.line.guid) ws
+
+-- this GUID stands at this place
+abbrev pub IsPlaceOf : List Guid → ℕ → Guid → Type 0
+IsPlaceOf [] i g = ⊥
+IsPlaceOf (x ∷ xs) zero g = x ≡ g
+IsPlaceOf (x ∷ xs) (suc i) g = IsPlaceOf xs i g
+
+-- it stands nowhere
+abbrev pub HasNone : List Guid → Guid → Type 0
+HasNone xs g = AllByRecursion (λ x. x ≢ g) xs
+
+-- a place of it, or none where it stands nowhere
+abbrev pub IsPlace : List Guid → Guid → Option ℕ → Type 0
+IsPlace xs g (Some i) = IsPlaceOf xs i g
+IsPlace xs g None = HasNone xs g
+
+-- what a map has at a GUID
+abbrev pub found : {S : Type 0} → HashMap (List ℕ) ℕ S → Guid → Option ℕ
+found m g = hash.get_by (bytes_eq g) m
+
+-- The index of GUIDs: it has a place of each, and no other GUID.
+abbrev pub IsIndex : (Guid → Option ℕ) → List Guid → Type 0
+IsIndex index xs = (g : Guid) → IsPlace xs g (index g)
