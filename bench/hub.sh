@@ -6,7 +6,8 @@
 # fastest; it ends with the status 1 where one is ten times slower than that.
 #
 # Writes a small program into a folder of its own under the system's temporary folder, with copies of the crates that
-# it stands on, has it proved and compiled there, runs it, and removes the folder.
+# it stands on and of their libraries where they are proved here already, has it proved and compiled there, runs it, and
+# removes the folder.
 #
 # Usage: bench/hub.sh [FACTS], by default 64000 GAPs at each line.
 set -euo pipefail
@@ -20,6 +21,10 @@ mkdir -p "$work/crates/hub_bench/src"
 for crate in dur_base dur_qos dur_view dur_store dur_hub rel_reader rtps_message rtps_params rtps_submsg; do
     mkdir -p "$work/crates/$crate"
     cp -r "$top/crates/$crate"/{src,specs,proofs} "$work/crates/$crate/"
+    if [ -d "$top/crates/$crate/out/rlib" ]; then
+        mkdir "$work/crates/$crate/out"
+        cp -r "$top/crates/$crate/out/rlib" "$work/crates/$crate/out/"
+    fi
     grep -E "^$crate[ :]" "$top/crates.txt" >> "$work/crates.txt"
 done
 echo 'hub_bench: dur_base dur_hub dur_qos dur_store dur_view rtps_message bytes' >> "$work/crates.txt"
