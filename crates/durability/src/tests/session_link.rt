@@ -24,7 +24,8 @@ pub enum Way {
     Swapped,
 }
 
-/// A session whose answers wait for the late reader. The calls with these numbers fail, counted from 0.
+/// A session whose answers wait for the late reader. The calls with the numbers in `fails` fail,
+/// counted from 0.
 #[derive(Drop)]
 pub struct SessionLink {
     alloc: Global,
@@ -55,7 +56,8 @@ fn copy_of(alloc: Global, bytes: &[u8]) -> Result<Octets, OutOfMemory> {
 }
 
 impl SessionLink {
-    /// A link to a new session of these changes; or None where they cannot be sent, or for want of memory.
+    /// A link to a new session of these changes; or None where they cannot be sent, or for want of
+    /// memory.
     pub fn new(
         alloc: Global,
         changes: List<Change>,
