@@ -42,7 +42,8 @@ ends_of (line.Late reader prefix writer peer turns) = no_ends
 
 -- the line asks for a late reader that begins so, and for so many turns
 abbrev pub IsOfLate : Line → Late → ℕ → Type 0
-IsOfLate (line.Late reader prefix writer peer turns) first most = (first ≡ fresh reader prefix writer) × (most ≡ turns)
+IsOfLate (line.Late reader prefix writer peer turns) first most =
+    (first ≡ fresh reader prefix writer) × (most ≡ turns)
 IsOfLate (line.List at epoch) first most = ⊥
 IsOfLate (line.Show epoch) first most = ⊥
 

@@ -46,11 +46,12 @@ fn run<L: Link, K: Sink>(alloc: Global, line: Line, link: &mut L, out: &mut K) -
     }
 }
 
-/// Does what the words after the program's name ask of `late`: a late reader takes a replay over the link, and prints a
-/// line for each change that it took (DDSI-RTPS 8.4.12).
+/// Does what the words after the program's name ask of `late`: a late reader takes a replay over the
+/// link, and prints a line for each change that it took (DDSI-RTPS 8.4.12).
 ///
-/// Words that are no line of `late` are `Usage`, and then nothing is received, sent or written. The status says what
-/// became of the run, as it does for `dur_rerun::late::late`; no fault is said here, which is left to the caller.
+/// Words that are no line of `late` are `Usage`, and then nothing is received, sent or written. The
+/// status says what became of the run, as it does for `dur_rerun::late::late`; no fault is said here,
+/// which is left to the caller.
 pub fn late<L: Link, K: Sink>(
     alloc: Global,
     words: &[String],

@@ -57,8 +57,8 @@ fn run_late<E: Sink>(rt: &HostRuntime, words: &[String], peer: &str, err: &mut E
     ExitCode::from(late_number(status))
 }
 
-/// A link to the address that a text is, as `127.0.0.1:7400`. A text that is none is `Usage`, and a socket that cannot
-/// be made is `LinkFault`.
+/// A link to the address that a text is, as `127.0.0.1:7400`. A text that is none is `Usage`, and a
+/// socket that cannot be made is `LinkFault`.
 fn link_to(rt: &HostRuntime, peer: &str) -> Result<UdpLink, LateStatus> {
     let Ok(address) = peer.parse::<SocketAddr>() else {
         return Err(LateStatus::Usage);

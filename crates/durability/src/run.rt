@@ -21,11 +21,14 @@ fn run<S: Source, R: Rig>(alloc: Global, line: Line, input: &mut S, rig: R) -> R
     ensures usage { (IsOwn line → ⊥) → result.status ≡ Status.Usage }
     ensures untouched { result.status ≡ Status.Usage → (input.new ≡ input.old) × (result.rig ≡ rig) }
     ensures reason { IsOwn line → HasReason (ends_of line) result.status (S.left input.new)
-        (S.faults input.old) (S.faults input.new) (R.sink_faults rig) (R.sink_faults result.rig) }
-    ensures arrives { IsOwn line → IfSome (S.left input.old) (λ bytes. Arrives (answers_of line) bytes result.status
-        (S.faults input.old) (S.faults input.new) (R.sink_faults rig) (R.sink_faults result.rig)) }
+        (S.faults input.old) (S.faults input.new)
+        (R.sink_faults rig) (R.sink_faults result.rig) }
+    ensures arrives { IsOwn line → IfSome (S.left input.old) (λ bytes.
+        Arrives (answers_of line) bytes result.status (S.faults input.old) (S.faults input.new)
+        (R.sink_faults rig) (R.sink_faults result.rig)) }
     ensures out { IsOwn line → IfSome (S.left input.old) (λ bytes.
-        GoesOut (answers_of line) bytes result.status R.tells (R.world rig).now (R.world result.rig).now) }
+        GoesOut (answers_of line) bytes result.status R.tells
+        (R.world rig).now (R.world result.rig).now) }
     ensures keeps { Keeps R.tells (R.world rig).now (R.world result.rig).now
         (R.disk_faults rig) (R.disk_faults result.rig) }
 {
@@ -53,9 +56,9 @@ fn told<R: Rig, E: Sink>(ran: Ran<R>, err: &mut E) -> Ran<R>
 /// Does what the words after the program's name ask for, and hands the rig back.
 ///
 /// `list` reads a plan and a capture, and prints what the history that they admit entitles a late
-/// reader to. `show` prints a line for each record of the capture. Other words are `Usage`; those
-/// of `late` are, too, which is a call of its own. The status says what became of it, and a status other than
-/// `Done` is said on `err` in one line; that `err` fails changes no status.
+/// reader to. `show` prints a line for each record of the capture. Other words are `Usage`; those of
+/// `late` are, too, which is a call of its own. The status says what became of it, and a status other
+/// than `Done` is said on `err` in one line; that `err` fails changes no status.
 pub fn durability<S: Source, R: Rig, E: Sink>(
     alloc: Global,
     words: &[String],
@@ -72,12 +75,16 @@ pub fn durability<S: Source, R: Rig, E: Sink>(
     // They are one.
     ensures reason { (line : Line) → IsOwnLine (map string_bytes words.now) line
         → HasReason (ends_of line) result.status (S.left input.new)
-        (S.faults input.old) (S.faults input.new) (R.sink_faults rig) (R.sink_faults result.rig) }
+        (S.faults input.old) (S.faults input.new)
+        (R.sink_faults rig) (R.sink_faults result.rig) }
     ensures arrives { (line : Line) → IsOwnLine (map string_bytes words.now) line
-        → IfSome (S.left input.old) (λ bytes. Arrives (answers_of line) bytes result.status
-        (S.faults input.old) (S.faults input.new) (R.sink_faults rig) (R.sink_faults result.rig)) }
+        → IfSome (S.left input.old) (λ bytes.
+        Arrives (answers_of line) bytes result.status (S.faults input.old) (S.faults input.new)
+        (R.sink_faults rig) (R.sink_faults result.rig)) }
     ensures out { (line : Line) → IsOwnLine (map string_bytes words.now) line
-        → IfSome (S.left input.old) (λ bytes. GoesOut (answers_of line) bytes result.status R.tells (R.world rig).now (R.world result.rig).now) }
+        → IfSome (S.left input.old) (λ bytes.
+        GoesOut (answers_of line) bytes result.status R.tells
+        (R.world rig).now (R.world result.rig).now) }
     ensures keeps { Keeps R.tells (R.world rig).now (R.world result.rig).now
         (R.disk_faults rig) (R.disk_faults result.rig) }
     // The line of a fault.

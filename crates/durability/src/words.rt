@@ -22,7 +22,8 @@ use values::{argument_of, count_of, number_of, octets_of};
 pub enum Line {
     /// The listing of what a late reader is entitled to.
     List {
-        /// The moment of the listing, in ticks of 2^-32 s. The greatest moment of the records counts where it is later.
+        /// The moment of the listing, in ticks of 2^-32 s. The greatest moment of the records counts
+        /// where it is later.
         at: Ticks,
         /// The epoch of the service.
         epoch: u32,
@@ -78,7 +79,8 @@ impl From<clap::Error> for WordsFault {
 /// The line of `list` with these words behind it.
 fn list_line(alloc: Global, words: &[String]) -> Result<Line, WordsFault>
     ensures line { IfOk result (λ line. IsLine (codes "list" ∷ map string_bytes words.now) line) }
-    ensures usage { result ≡ Err WordsFault.Usage → (line : Asked) → IsLine (codes "list" ∷ map string_bytes words.now) line → ⊥ }
+    ensures usage { result ≡ Err WordsFault.Usage
+        → (line : Asked) → IsLine (codes "list" ∷ map string_bytes words.now) line → ⊥ }
 {
     let command = list_command(alloc)?;
     let given = options(command, words)?;
@@ -93,7 +95,8 @@ fn list_line(alloc: Global, words: &[String]) -> Result<Line, WordsFault>
 /// The line of `show` with these words behind it.
 fn show_line(alloc: Global, words: &[String]) -> Result<Line, WordsFault>
     ensures line { IfOk result (λ line. IsLine (codes "show" ∷ map string_bytes words.now) line) }
-    ensures usage { result ≡ Err WordsFault.Usage → (line : Asked) → IsLine (codes "show" ∷ map string_bytes words.now) line → ⊥ }
+    ensures usage { result ≡ Err WordsFault.Usage
+        → (line : Asked) → IsLine (codes "show" ∷ map string_bytes words.now) line → ⊥ }
 {
     let command = show_command(alloc)?;
     let given = options(command, words)?;
@@ -106,7 +109,8 @@ fn show_line(alloc: Global, words: &[String]) -> Result<Line, WordsFault>
 /// The line of `late` with these words behind it.
 fn late_line(alloc: Global, words: &[String]) -> Result<Line, WordsFault>
     ensures line { IfOk result (λ line. IsLine (codes "late" ∷ map string_bytes words.now) line) }
-    ensures usage { result ≡ Err WordsFault.Usage → (line : Asked) → IsLine (codes "late" ∷ map string_bytes words.now) line → ⊥ }
+    ensures usage { result ≡ Err WordsFault.Usage
+        → (line : Asked) → IsLine (codes "late" ∷ map string_bytes words.now) line → ⊥ }
 {
     let command = late_command(alloc)?;
     let given = options(command, words)?;
@@ -142,11 +146,12 @@ fn is_late_word(word: &String) -> bool
     word.as_str() == "late"
 }
 
-/// The command line that the words after the program's name are; or `Usage` exactly where they are none, or
-/// want of memory.
+/// The command line that the words after the program's name are; or `Usage` exactly where they are
+/// none, or want of memory.
 pub fn read_words(alloc: Global, words: &[String]) -> Result<Line, WordsFault>
     ensures line { IfOk result (λ line. IsLine (map string_bytes words.now) line) }
-    ensures usage { result ≡ Err WordsFault.Usage → (line : Asked) → IsLine (map string_bytes words.now) line → ⊥ }
+    ensures usage { result ≡ Err WordsFault.Usage
+        → (line : Asked) → IsLine (map string_bytes words.now) line → ⊥ }
 {
     match words {
         [word, rest @ ..] => if is_list_word(word) {

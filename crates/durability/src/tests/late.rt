@@ -216,7 +216,8 @@ struct Outcome {
     link: SessionLink,
 }
 
-/// A run over a session of so many changes. The calls of the link and of the sink with these numbers fail.
+/// A run over a session of so many changes. The calls of the link and of the sink with these numbers
+/// fail.
 fn run(
     alloc: Global,
     count: u64,

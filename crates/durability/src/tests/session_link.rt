@@ -1,9 +1,9 @@
 //! A link in memory whose other end is a session of a replay, which answers each datagram at once.
 
-ghost use Rattle.std.specs.Prelude.{◌≡◌, ◌≤◌, [], length, take, IfOk, IfSome, is_err};
+ghost use Rattle.std.specs.Prelude.{◌≡◌, ◌≤◌, [], length, IfOk, IfSome, is_err};
 ghost use Rattle.dur_outside.specs.Causes.{HasCause, Rose, faults_after, one_more};
 
-use dur_base::{Bits, Fact, List, Number, Octets, OutOfMemory, Prefix};
+use dur_base::{Fact, List, Number, Octets, OutOfMemory, Prefix};
 use dur_outside::{Failed, LONGEST_DATAGRAM, Link};
 use dur_view::{Change, Snapshot};
 use rel_writer::{Asked, Ids, Session, are_sendable};
@@ -24,16 +24,108 @@ pub enum Way {
     Swapped,
 }
 
-/// A session whose answers wait for the late reader. The calls with these numbers fail, counted from 0.
+/// The session at the other end, and its answers that wait for the late reader.
 #[derive(Drop)]
-pub struct SessionLink {
+struct Service {
     alloc: Global,
     own: Prefix,
     session: Session,
     way: Way,
     waiting: Vec<Octets>,
+    // Where they are written.
     out: Vec<u8>,
     answers: u64,
+}
+
+fn copy_of(alloc: Global, bytes: &[u8]) -> Result<Octets, OutOfMemory> {
+    let mut copy = Octets::new(alloc);
+    copy.append(bytes)?;
+    Ok(copy)
+}
+
+impl Service {
+    // The datagram of so many octets that was written is on its way.
+    fn put(&mut self, count: usize) -> Result<(), OutOfMemory> {
+        let front = &self.out[..count.min(self.out.len())];
+        let copy = copy_of(self.alloc, front)?;
+        self.answers = self.answers.wrapping_add(1);
+        match self.way {
+            Way::Straight => self.waiting.push(copy)?,
+            Way::Lossy => if self.answers % 3 != 0 {
+                self.waiting.push(copy)?;
+            },
+            Way::Twice => {
+                let again = copy_of(self.alloc, copy.as_slice())?;
+                self.waiting.push(copy)?;
+                self.waiting.push(again)?;
+            }
+            Way::Swapped => {
+                let before = (self.answers % 2) as usize;
+                let place = self.waiting.len().saturating_sub(before);
+                self.waiting.insert(place, copy)?;
+            }
+        }
+        Ok(())
+    }
+
+    // Sends the DATA of that number, if there is one.
+    fn send_data(&mut self, number: Number) -> Result<(), OutOfMemory> {
+        if number.get() <= self.session.last().get() && LONGEST_DATAGRAM <= self.out.len() {
+            let count = self.session.data(number, self.out.as_mut_slice());
+            self.put(count)?;
+        }
+        Ok(())
+    }
+
+    fn send_beat(&mut self) -> Result<(), OutOfMemory> {
+        if LONGEST_DATAGRAM <= self.out.len() {
+            let count = self.session.beat(self.out.as_mut_slice());
+            self.put(count)?;
+        }
+        Ok(())
+    }
+
+    // Sends what an ACKNACK asks for.
+    fn reply(&mut self, asked: Asked) -> Result<(), OutOfMemory> {
+        let base = asked.numbers.base().get();
+        for i in 0..asked.numbers.count() {
+            if asked.numbers.has(i)
+                && let Some(number) = Number::new(base.saturating_add(i as u64))
+            {
+                self.send_data(number)?;
+            }
+        }
+        if asked.beat {
+            self.send_beat()?;
+        }
+        Ok(())
+    }
+
+    // A datagram reaches the session.
+    fn hear(&mut self, bytes: &[u8]) -> Result<(), OutOfMemory> {
+        let heard = facts(self.alloc, bytes, self.own)?;
+        for fact in heard.facts.into_vec() {
+            if let Fact::Nack { set, .. } = fact {
+                let asked = self.session.on_nack(&set);
+                self.reply(asked)?;
+            }
+        }
+        Ok(())
+    }
+
+    // The next answer that waits.
+    fn next(&mut self) -> Option<Octets> {
+        if self.waiting.is_empty() {
+            return None;
+        }
+        Some(self.waiting.remove(0))
+    }
+}
+
+/// A link to a session. The calls with the numbers in `fails` fail, counted from 0.
+#[derive(Drop)]
+pub struct SessionLink {
+    service: Service,
     receives: u64,
     calls: u64,
     fails: List<u64>,
@@ -48,14 +140,9 @@ impl Model for SessionLink {
     ghost view = { λ l. l.faults };
 }
 
-fn copy_of(alloc: Global, bytes: &[u8]) -> Result<Octets, OutOfMemory> {
-    let mut copy = Octets::new(alloc);
-    copy.append(bytes)?;
-    Ok(copy)
-}
-
 impl SessionLink {
-    /// A link to a new session of these changes; or None where they cannot be sent, or for want of memory.
+    /// A link to a new session of these changes; or None where they cannot be sent, or for want of
+    /// memory.
     pub fn new(
         alloc: Global,
         changes: List<Change>,
@@ -70,13 +157,15 @@ impl SessionLink {
             return None;
         };
         Some(SessionLink {
-            alloc,
-            own: ids.own,
-            session: Session::new(Snapshot { changes }, ids),
-            way,
-            waiting: Vec::new(alloc),
-            out,
-            answers: 0,
+            service: Service {
+                alloc,
+                own: ids.own,
+                session: Session::new(Snapshot { changes }, ids),
+                way,
+                waiting: Vec::new(alloc),
+                out,
+                answers: 0,
+            },
             receives: 0,
             calls: 0,
             fails,
@@ -86,7 +175,7 @@ impl SessionLink {
 
     /// Whether the late reader acknowledged all of the replay.
     pub fn complete(&self) -> bool {
-        self.session.complete()
+        self.service.session.complete()
     }
 
     /// How often the late reader received.
@@ -111,85 +200,6 @@ impl SessionLink {
     {
         self.faults = self.faults.saturating_add(1);
         Failed
-    }
-
-    // The datagram of so many octets that was written is on its way.
-    fn put(&mut self, count: usize) -> Result<(), OutOfMemory>
-        ensures { self.new ≡ self.old }
-    {
-        let front = &self.out[..count.min(self.out.len())];
-        let copy = copy_of(self.alloc, front)?;
-        self.answers = self.answers.wrapping_add(1);
-        match self.way {
-            Way::Straight => self.waiting.push(copy)?,
-            Way::Lossy => if self.answers % 3 != 0 {
-                self.waiting.push(copy)?;
-            },
-            Way::Twice => {
-                let again = copy_of(self.alloc, copy.as_slice())?;
-                self.waiting.push(copy)?;
-                self.waiting.push(again)?;
-            }
-            Way::Swapped => {
-                let behind = self.waiting.len().saturating_sub(self.answers as usize % 2);
-                self.waiting.insert(behind, copy)?;
-            }
-        }
-        Ok(())
-    }
-
-    // Sends the DATA of that number, if there is one.
-    fn send_data(&mut self, number: Number) -> Result<(), OutOfMemory>
-        ensures { self.new ≡ self.old }
-    {
-        if number.get() <= self.session.last().get() && LONGEST_DATAGRAM <= self.out.len() {
-            let count = self.session.data(number, self.out.as_mut_slice());
-            self.put(count)?;
-        }
-        Ok(())
-    }
-
-    // Sends what an ACKNACK asks for.
-    fn reply(&mut self, asked: Asked) -> Result<(), OutOfMemory>
-        ensures { self.new ≡ self.old }
-    {
-        let base = asked.numbers.base().get();
-        for i in 0..asked.numbers.count() {
-            if asked.numbers.has(i)
-                && let Some(number) = Number::new(base.saturating_add(i as u64))
-            {
-                self.send_data(number)?;
-            }
-        }
-        if asked.beat && LONGEST_DATAGRAM <= self.out.len() {
-            let count = self.session.beat(self.out.as_mut_slice());
-            self.put(count)?;
-        }
-        Ok(())
-    }
-
-    // A datagram reaches the session.
-    fn hear(&mut self, bytes: &[u8]) -> Result<(), OutOfMemory>
-        ensures { self.new ≡ self.old }
-    {
-        let heard = facts(self.alloc, bytes, self.own)?;
-        for fact in heard.facts.into_vec() {
-            if let Fact::Nack { set, .. } = fact {
-                let asked = self.session.on_nack(&set);
-                self.reply(asked)?;
-            }
-        }
-        Ok(())
-    }
-
-    // The next answer that waits.
-    fn next(&mut self) -> Option<Octets>
-        ensures { self.new ≡ self.old }
-    {
-        if self.waiting.is_empty() {
-            return None;
-        }
-        Some(self.waiting.remove(0))
     }
 }
 
@@ -224,7 +234,7 @@ impl Link for SessionLink {
         if self.call_fails() {
             return Err(self.fail());
         }
-        match self.next() {
+        match self.service.next() {
             Some(answer) => Ok(Some(put_front(answer.as_slice(), into, LONGEST_DATAGRAM))),
             None => Ok(None),
         }
@@ -237,7 +247,7 @@ impl Link for SessionLink {
         if self.call_fails() {
             return Err(self.fail());
         }
-        match self.hear(bytes) {
+        match self.service.hear(bytes) {
             Ok(()) => Ok(()),
             Err(_) => Err(self.fail()),
         }

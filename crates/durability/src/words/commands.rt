@@ -27,7 +27,8 @@ fn with_option<'a>(
     command: Command<'a>,
     name: &'a str,
 ) -> Result<Command<'a>, AllocError>
-    ensures { IfOk result (λ c. app_of c ≡ with_rule (app_of command.entry) (new_option name.entry.now)) }
+    ensures { IfOk result (λ c.
+        app_of c ≡ with_rule (app_of command.entry) (new_option name.entry.now)) }
 {
     let option = Arg::new(alloc, name).long(name).action(ArgAction::Set);
     command.arg(option)
@@ -77,10 +78,15 @@ fn has_dashes(words: &[String]) -> bool
 
 /// The options that the words of a command are, each as `--name value` or `--name=value`.
 pub fn options<'a>(command: Command<'a>, words: &'a [String]) -> Result<ArgMatches<'a>, WordsFault>
-    ensures ok { (name : List ℕ) (names : List (List ℕ)) → app_of command.entry ≡ command_of name names → is_simple_and_free (command_of name names) ≡ true → AreNames names
+    ensures ok { (name : List ℕ) (names : List (List ℕ))
+        → app_of command.entry ≡ command_of name names
+        → is_simple_and_free (command_of name names) ≡ true → AreNames names
         → IfOk result (HasOptions names (map string_bytes words.entry.now)) }
-    ensures usage { (name : List ℕ) (names : List (List ℕ)) → app_of command.entry ≡ command_of name names → is_simple_and_free (command_of name names) ≡ true → AreNames names
-        → result ≡ Err WordsFault.Usage → (given : List Given) → IsOptions names (map string_bytes words.entry.now) given → ⊥ }
+    ensures usage { (name : List ℕ) (names : List (List ℕ))
+        → app_of command.entry ≡ command_of name names
+        → is_simple_and_free (command_of name names) ≡ true → AreNames names
+        → result ≡ Err WordsFault.Usage
+        → (given : List Given) → IsOptions names (map string_bytes words.entry.now) given → ⊥ }
 {
     if has_dashes(words) {
         return Err(WordsFault::Usage);

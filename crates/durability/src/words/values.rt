@@ -10,8 +10,8 @@ use crate::words::WordsFault;
 use itoa::Buffer;
 use std::alloc::Global;
 
-/// The number that a text spells, decimal and without leading zeros; or None exactly where it spells none
-/// below 2^64.
+/// The number that a text spells, decimal and without leading zeros; or None exactly where it spells
+/// none below 2^64.
 fn number(text: &str) -> Option<u64>
     ensures some { IfSome result (λ n. (text.now ≡ decimal n) × (n < 2 ^ 64)) }
     ensures none { IfNone result ((n : ℕ) → n < 2 ^ 64 → text.now ≡ decimal n → ⊥) }
@@ -32,7 +32,8 @@ fn number(text: &str) -> Option<u64>
 /// The number of an option, or 0 where it is left out.
 pub fn number_of(text: Option<&str>, most: u64) -> Result<u64, WordsFault>
     ensures ok { IfOk result (λ n. IsNumber (option_map (λ t. t.now) text.entry) n × (n ≤ most)) }
-    ensures usage { IfErr result (λ e. (n : ℕ) → IsNumber (option_map (λ t. t.now) text.entry) n → n ≤ most → ⊥) }
+    ensures usage { IfErr result (λ e. (n : ℕ)
+        → IsNumber (option_map (λ t. t.now) text.entry) n → n ≤ most → ⊥) }
 {
     match text {
         None => Ok(0),
@@ -50,7 +51,8 @@ pub fn number_of(text: Option<&str>, most: u64) -> Result<u64, WordsFault>
 /// The number of an option that must be given, from 1.
 pub fn count_of(text: Option<&str>, most: u64) -> Result<u64, WordsFault>
     ensures ok { IfOk result (λ n. IsCount (option_map (λ t. t.now) text.entry) n × (n ≤ most)) }
-    ensures usage { IfErr result (λ e. (n : ℕ) → IsCount (option_map (λ t. t.now) text.entry) n → n ≤ most → ⊥) }
+    ensures usage { IfErr result (λ e. (n : ℕ)
+        → IsCount (option_map (λ t. t.now) text.entry) n → n ≤ most → ⊥) }
 {
     match number_of(text, most) {
         Ok(0) => Err(WordsFault::Usage),
@@ -70,11 +72,13 @@ fn is_hex(octets: &[u8], text: &str) -> bool
     text.as_bytes() == digits
 }
 
-/// The octets that a text is, each as two hex digits in lower case; or None exactly where it is none.
+/// The octets that a text is, each as two hex digits in lower case; or None exactly where it is
+/// none.
 fn octets<const N: usize>(text: &str) -> Option<[u8; N]>
     requires { N ≤ 16 }
     ensures some { IfSome result (λ octets. text.now ≡ encode_lower octets) }
-    ensures none { IfNone result ((octets : List ℕ) → length octets ≡ N → IsBytes octets → text.now ≡ encode_lower octets → ⊥) }
+    ensures none { IfNone result ((octets : List ℕ)
+        → length octets ≡ N → IsBytes octets → text.now ≡ encode_lower octets → ⊥) }
 {
     let mut octets = [0; N];
     match hex::decode_to_slice(text, &mut octets) {
@@ -91,7 +95,8 @@ fn octets<const N: usize>(text: &str) -> Option<[u8; N]>
 pub fn octets_of<const N: usize>(text: Option<&str>) -> Result<[u8; N], WordsFault>
     requires { N ≤ 16 }
     ensures ok { IfOk result (λ octets. IsHex N (option_map (λ t. t.now) text.entry) octets) }
-    ensures usage { IfErr result (λ e. (octets : List ℕ) → IsHex N (option_map (λ t. t.now) text.entry) octets → ⊥) }
+    ensures usage { IfErr result (λ e. (octets : List ℕ)
+        → IsHex N (option_map (λ t. t.now) text.entry) octets → ⊥) }
 {
     match text {
         None => Err(WordsFault::Usage),
@@ -115,7 +120,8 @@ fn is_argument(text: &str) -> bool
 /// The text of an option that must be given.
 pub fn argument_of(alloc: Global, text: Option<&str>) -> Result<Argument, WordsFault>
     ensures ok { IfOk result (λ a. IsText (option_map (λ t. t.now) text.entry) a) }
-    ensures usage { result ≡ Err WordsFault.Usage → (a : List ℕ) → IsText (option_map (λ t. t.now) text.entry) a → ⊥ }
+    ensures usage { result ≡ Err WordsFault.Usage
+        → (a : List ℕ) → IsText (option_map (λ t. t.now) text.entry) a → ⊥ }
 {
     match text {
         Some(text) => if is_argument(text) {
