@@ -1,0 +1,4 @@
+pub mod Bodies
+pub mod Samples
+pub mod Joining
+pub mod Asking

@@ -1,0 +1,10 @@
+//! Samples that come in fragments (DDSI-RTPS 8.3.8.3, 8.4.14): DATA_FRAG joined, and the fragments that are missing
+//! asked for.
+#![tactic(auto)]
+
+mod asks;
+mod body;
+mod joiner;
+
+pub use asks::FragAsk;
+pub use joiner::Joined;
