@@ -1,7 +1,7 @@
 -- What a participant hears in a list of datagrams, where samples come in fragments.
-use Rattle.std.specs.Prelude.{◌≡◌, ◌⊎◌, ℕ, suc, ◌+◌, ◌-◌, ◌<◌, ◌≤◌, Bool, true, false, List, [], ◌∷◌, ◌++◌, length, take, drop, get_or, set, Option, Some, None, Ok, Err, nat_lt, nat_le, ◌==◌, ◌&&◌, slice_index, if◌then◌else◌}
-use Rattle.std.specs.Option.{option_to_list, option_map}
-use Rattle.std.specs.List.{remove}
+use Rattle.std.specs.Prelude.{◌≡◌, ◌⊎◌, ℕ, suc, ◌+◌, ◌-◌, ◌<◌, ◌≤◌, Bool, true, false, List, [], ◌∷◌, ◌++◌, length, map, take, drop, get_or, set, Option, Some, None, Ok, Err, nat_lt, nat_le, ◌==◌, ◌&&◌, not, slice_index, if◌then◌else◌}
+use Rattle.std.specs.Option.{option_to_list}
+use Rattle.std.specs.List.{remove, list_all}
 use Rattle.std.specs.Str.{bytes_eq}
 use Rattle.dur_base.specs.declared.fact.Fact.{Fact}
 use Rattle.dur_base.specs.declared.fact.Fact.TheVariants as facts
@@ -14,12 +14,14 @@ use Rattle.rtps_message.specs.declared.context.Context.{Context}
 use Rattle.rtps_message.specs.declared.heard.End.{End}
 use Rattle.rtps_message.specs.declared.heard.End.TheVariants.{Whole, BadHeader, Stopped}
 use Rattle.rtps_message.specs.Facts.{is_for, start, after, told}
-use Rattle.rtps_message.specs.Messages.{HasHeader}
+use Rattle.rtps_message.specs.declared.heard.Heard.{Heard}
+use Rattle.rtps_message.specs.Messages.{HasHeader, Hears}
+use Rattle.rtps_message.specs.Messages as message
 use Rattle.rtps_frag.specs.declared.asks.FragAsk.{FragAsk}
 use Rattle.rtps_frag.specs.declared.body.FragBeat.{FragBeat}
 use Rattle.rtps_frag.specs.declared.joiner.Joined.{Joined}
 use Rattle.rtps_frag.specs.Bodies.{Fragments, FragmentsSpell, FragmentsBreak, beat_at}
-use Rattle.rtps_frag.specs.Samples.{Opened, opening, is_alike, with_fragments, is_whole, joined}
+use Rattle.rtps_frag.specs.Samples.{Opened, opening, is_sample, is_alike, with_fragments, is_whole, joined}
 use Rattle.rtps_frag.specs.Asking.{asked}
 
 -- ---- a submessage
@@ -37,9 +39,14 @@ flags_of bytes = slice_index bytes 1
 abbrev pub body_of : List ℕ → ℕ → List ℕ
 body_of bytes n = drop 4 (take n bytes)
 
+-- a submessage of an id that the table of the others does not have
+abbrev pub is_other : ℕ → Sub → Bool
+is_other id (Other x) = x == id
+is_other id _ = false
+
+-- it has to do with no fragments
 abbrev pub is_plain : Sub → Bool
-is_plain (Other id) = if id == 0x16 then false else if id == 0x13 then false else true
-is_plain _ = true
+is_plain s = not (is_other 0x16 s) && not (is_other 0x13 s)
 
 -- The first n octets spell it. 16 is a DATA_FRAG and 13 a HEARTBEAT_FRAG.
 abbrev pub ItemSpells : List ℕ → Item → ℕ → Type 0
@@ -67,13 +74,10 @@ pub record After : Type 0 where
   pub samples : List Opened
   pub fact : Option Fact
 
-abbrev pub is_sample : List ℕ → ℕ → Opened → Bool
-is_sample writer number o = o.number == number && bytes_eq o.writer writer
-
--- the place of a sample among the open ones
-abbrev pub place_of : List ℕ → ℕ → List Opened → Option ℕ
-place_of writer number [] = None
-place_of writer number (o ∷ os) = if is_sample writer number o then Some 0 else option_map (λ i. i + 1) (place_of writer number os)
+-- the place of a sample among open ones, of which the first one has place k
+abbrev pub place_from : ℕ → List ℕ → ℕ → List Opened → Option ℕ
+place_from k writer number [] = None
+place_from k writer number (o ∷ os) = if is_sample writer number o then Some k else place_from (k + 1) writer number os
 
 -- At most 64 are open: the one that was opened first is given up.
 abbrev pub with_room : List Opened → List Opened
@@ -88,28 +92,26 @@ abbrev pub again : Option ℕ → Fragments → Opened → ℕ → List Opened �
 again time f o i os = if is_alike o f then settled (with_fragments time f o) (remove os i) (set os i (with_fragments time f o)) else record { samples = os; fact = None }
 
 -- Fragments of a sample that is not open open it, unless it is too long to be read.
-abbrev pub anew : Option ℕ → Fragments → Opened → List Opened → After
-anew time f o os =
-    if nat_lt 65344 f.head.size then record { samples = os; fact = Some (facts.Unreadable o.writer f.head.reader f.head.number) }
-    else settled (with_fragments time f o) (with_room os) (with_room os ++ with_fragments time f o ∷ [])
+abbrev pub anew : List ℕ → Option ℕ → Fragments → List Opened → After
+anew writer time f os =
+    if nat_lt 65344 f.head.size then record { samples = os; fact = Some (facts.Unreadable writer f.head.reader f.head.number) }
+    else settled (with_fragments time f (opening writer f)) (with_room os) (with_room os ++ with_fragments time f (opening writer f) ∷ [])
 
 abbrev pub at_place : List ℕ → Option ℕ → Fragments → List Opened → Option ℕ → After
-at_place writer time f os None = anew time f (opening writer f) os
+at_place writer time f os None = anew writer time f os
 at_place writer time f os (Some i) = again time f (get_or os i (opening writer f)) i os
 
+-- what a DATA_FRAG of that writer does and tells
 unfoldable pub with_pieces : List ℕ → Option ℕ → Fragments → List Opened → After
-with_pieces writer time f os = at_place writer time f os (place_of writer f.head.number os)
+with_pieces writer time f os = at_place writer time f os (place_from 0 writer f.head.number os)
 
--- which fragments of an open sample are asked for
-abbrev pub asked_at : ℕ → List Opened → Option ℕ → Option FragAsk
-asked_at last os None = None
-asked_at last os (Some i) = asked_of last (drop i os) where
-  asked_of : ℕ → List Opened → Option FragAsk
-  asked_of last [] = None
-  asked_of last (o ∷ later) = asked o.writer o.number o.came last
+-- which fragments of an open sample a HEARTBEAT_FRAG asks for
+abbrev pub asked_at : List ℕ → FragBeat → List Opened → Option ℕ → Option FragAsk
+asked_at writer b os None = None
+asked_at writer b os (Some i) = asked writer b.number (get_or (map (λ o. o.came) os) i []) b.last
 
 unfoldable pub asked_in : List ℕ → FragBeat → List Opened → Option FragAsk
-asked_in writer b os = asked_at b.last os (place_of writer b.number os)
+asked_in writer b os = asked_at writer b os (place_from 0 writer b.number os)
 
 -- what stands between two submessages
 pub record Standing : Type 0 where
@@ -132,6 +134,13 @@ abbrev pub step : List ℕ → Standing → Item → Step
 step own s (plain p) = record { next = record s { context = after s.context p }; fact = told own s.context p; ask = None }
 step own s (pieces f) = if is_for own s.context then opened_by s (with_pieces (s.context.source ++ f.head.writer) s.context.time f s.samples) else nothing s
 step own s (beat b) = if is_for own s.context then record { next = s; fact = None; ask = asked_in (s.context.source ++ b.writer) b s.samples } else nothing s
+
+-- the first n octets are a submessage that does this and tells this
+pub record Goes (own bytes : List ℕ) (old new : Standing) (n : ℕ) (fact : Option Fact) (ask : Option FragAsk) : Type 0 where
+  pub item : Item
+  pub spells : ItemSpells bytes item n
+  pub within : n ≤ length bytes
+  pub does : step own old item ≡ record { next = new; fact = fact; ask = ask }
 
 -- ---- a message
 
@@ -181,3 +190,17 @@ abbrev pub Joins : List ℕ → List ℕ → List Opened → Joined → List Ope
 Joins own bytes samples heard left =
     (HasHeader bytes × Says own bytes (record { context = start bytes; samples = samples }) heard left)
     ⊎ ((HasHeader bytes → ⊥) × (heard ≡ record { facts = []; end = BadHeader; asks = [] }) × (left ≡ samples))
+
+-- ---- without fragments
+
+-- no submessage of a message is a DATA_FRAG or a HEARTBEAT_FRAG
+abbrev pub HasNoFragments : List ℕ → Type 0
+HasNoFragments bytes = (subs : List Sub) (rest : List ℕ) → message.Splits (drop 20 bytes) subs rest → list_all is_plain subs ≡ true
+
+-- a message without fragments is heard as ever, and leaves the open samples
+abbrev pub IsAsEver : List ℕ → List ℕ → List Opened → Joined → List Opened → Type 0
+IsAsEver own bytes samples heard left = (h : Heard) → Hears own bytes h → HasNoFragments bytes → (heard ≡ record { facts = h.facts; end = h.end; asks = [] }) × (left ≡ samples)
+
+-- nothing else is heard, and nothing else is left
+abbrev pub IsAll : List ℕ → List ℕ → List Opened → Joined → List Opened → Type 0
+IsAll own bytes samples heard left = (other : Joined) (after : List Opened) → Joins own bytes samples other after → (heard ≡ other) × (left ≡ after)

@@ -2,3 +2,4 @@ pub mod Bodies
 pub mod Samples
 pub mod Joining
 pub mod Asking
+pub mod Laws

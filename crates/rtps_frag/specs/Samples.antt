@@ -1,5 +1,5 @@
 -- One open sample: what came of it since it was opened.
-use Rattle.std.specs.Prelude.{◌≡◌, ℕ, zero, suc, ◌+◌, ◌-◌, ◌*◌, ◌/◌, Bool, true, false, List, [], ◌∷◌, length, take, drop, get_or, set, replicate, Option, Some, None, is_none, nat_lt, nat_le, ◌==◌, ◌&&◌, not, if◌then◌else◌}
+use Rattle.std.specs.Prelude.{◌≡◌, ℕ, zero, suc, ◌+◌, ◌-◌, ◌*◌, ◌/◌, ◌^◌, ◌<◌, Bool, true, false, List, [], ◌∷◌, length, take, drop, get_or, set, replicate, Option, Some, None, is_none, nat_lt, nat_le, ◌==◌, ◌&&◌, not, if◌then◌else◌}
 use Rattle.std.specs.List.{list_all}
 use Rattle.std.specs.Str.{bytes_eq}
 use Rattle.dur_base.specs.declared.fact.Fact.{Fact}
@@ -24,6 +24,21 @@ pub record Opened : Type 0 where
   pub time : Option ℕ
   pub came : List Bool
   pub octets : List ℕ
+
+-- how many of the fragments did not come
+abbrev pub missing_in : List Bool → ℕ
+missing_in [] = 0
+missing_in (true ∷ later) = missing_in later
+missing_in (false ∷ later) = missing_in later + 1
+
+-- what a place of an open sample knows: it has sampleSize octets, and counts the fragments that did not come
+pub record IsOpened (size missing : ℕ) (came : List Bool) (octets : List ℕ) : Type 0 where
+  pub octets_are : length octets ≡ size
+  pub counted : missing ≡ missing_in came
+
+-- that sample
+abbrev pub is_sample : List ℕ → ℕ → Opened → Bool
+is_sample writer number o = o.number == number && bytes_eq o.writer writer
 
 -- how many fragments a sample of that size has
 abbrev pub fragments_in : ℕ → ℕ → ℕ

@@ -95,6 +95,7 @@ fn read_head(body: &[u8], little: bool) -> Result<Head, SubFault>
     ensures value { result ≡ head_at little body.now }
     ensures within { IfOk result (λ h. 4 + h.offset ≤ length body.now) }
     ensures good { IfOk result (λ h. IsGoodHead h) }
+    ensures place { IfErr result (λ e. e.at ≤ 32) }
 {
     if body.len() < 2 {
         return Err(fault(4, SubKind::Cut));
@@ -142,7 +143,8 @@ fn read_head(body: &[u8], little: bool) -> Result<Head, SubFault>
 /// What a HEARTBEAT_FRAG says, or its first fault.
 #[tactic(auto, unfolding(crate::specs::Bodies::beat_at))]
 pub fn read_beat(body: &[u8], little: bool) -> Result<FragBeat, SubFault>
-    ensures { result ≡ beat_at little body.now }
+    ensures value { result ≡ beat_at little body.now }
+    ensures place { IfErr result (λ e. e.at ≤ 32) }
 {
     if body.len() < 4 {
         return Err(fault(4, SubKind::Cut));
@@ -211,6 +213,7 @@ pub fn read_fragments<'a>(body: &'a [u8], flags: u8) -> Result<FragSub<'a>, SubF
     ensures ok { IfOk result (λ f. FragmentsSpell flags body.now (brings f)) }
     ensures fits { IfOk result (λ f. Fits (brings f)) }
     ensures err { IfErr result (λ e. FragmentsBreak flags body.now e.at e.kind) }
+    ensures place { IfErr result (λ e. e.at ≤ 32 + length body.now) }
 {
     let little = has(flags, LITTLE);
     let head = match read_head(body, little) {

@@ -4,7 +4,11 @@
 
 mod asks;
 mod body;
+mod hearing;
 mod joiner;
+mod laws;
+mod sample;
 
 pub use asks::FragAsk;
-pub use joiner::Joined;
+pub use joiner::{Joined, Joiner};
+pub use laws::whole_where_all_came;
