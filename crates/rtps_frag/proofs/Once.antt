@@ -1,6 +1,6 @@
 -- A message says one thing.
 use Rattle.std.proofs.Common.{◌≡◌, ℕ, ◌+◌, ◌-◌, ◌<◌, ◌≤◌, Bool, true, false, List, [], ◌∷◌, ◌++◌, length, take, drop, Option, Result, Ok, Err, refl, sym, ap, subst, ◌∙◌, arith, inl, inr}
-use Rattle.std.specs.Prelude.{IfOk, map, ◌&&◌}
+use Rattle.std.specs.Prelude.{map, ◌&&◌}
 use Rattle.std.specs.List.{list_all}
 use Rattle.std.specs.Option.{option_to_list}
 use Rattle.std.proofs.lemmas.Bool.{false≢true}
@@ -276,9 +276,8 @@ joins_once own bytes os h g left right (inl x) (inr y) = absurd (y.0 x.0)
 joins_once own bytes os h g left right (inr x) (inl y) = absurd (x.0 y.0)
 joins_once own bytes os h g left right (inr x) (inr y) = (x.1 ∙ sym y.1, x.2 ∙ sym y.2)
 
-pub only_by : {E : Type 0} (own bytes : List ℕ) (os left : List Opened) (r : Result Joined E) → IfOk r (λ h. Joins own bytes os h left) → IfOk r (λ h. IsAll own bytes os h left)
-only_by own bytes os left (Ok h) x = λ other right y. joins_once own bytes os h other left right x y
-only_by own bytes os left (Err e) x = tt
+pub only_one : (own bytes : List ℕ) (os left : List Opened) (h : Joined) → Joins own bytes os h left → IsAll own bytes os h left
+only_one own bytes os left h x = λ other right y. joins_once own bytes os h other left right x y
 
 -- ---- without fragments
 
@@ -331,6 +330,5 @@ plain_joins own bytes os h (inl x) none =
       })
 plain_joins own bytes os h (inr x) none = inr (x.0, ap as_joined x.1, refl)
 
-pub ever_by : {E : Type 0} (own bytes : List ℕ) (os left : List Opened) (r : Result Joined E) → IfOk r (λ h. Joins own bytes os h left) → IfOk r (λ h. IsAsEver own bytes os h left)
-ever_by own bytes os left (Ok j) x = λ h y none. joins_once own bytes os j (as_joined h) left os x (plain_joins own bytes os h y none)
-ever_by own bytes os left (Err e) x = tt
+pub as_ever : (own bytes : List ℕ) (os left : List Opened) (j : Joined) → Joins own bytes os j left → IsAsEver own bytes os j left
+as_ever own bytes os left j x = λ h y none. joins_once own bytes os j (as_joined h) left os x (plain_joins own bytes os h y none)
