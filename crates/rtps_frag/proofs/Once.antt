@@ -317,8 +317,8 @@ plain_joins : (own bytes : List ℕ) (os : List Opened) (h : Heard) → Hears ow
 plain_joins own bytes os h (inl x) none =
     let s : Standing = record { context = start bytes; samples = os } in
     let subs = x.1.subs in
-    inl
-    (x.0,
+    inl (
+      x.0,
       record {
         items = map plain subs;
         rest = x.1.rest;
@@ -327,7 +327,8 @@ plain_joins own bytes os h (inl x) none =
         facts = x.1.facts ∙ sym (plain_facts own s subs);
         asks = sym (plain_asks own s subs);
         leaves = sym (plain_leaves own s subs);
-      })
+      },
+    )
 plain_joins own bytes os h (inr x) none = inr (x.0, ap as_joined x.1, refl)
 
 pub as_ever : (own bytes : List ℕ) (os left : List Opened) (j : Joined) → Joins own bytes os j left → IsAsEver own bytes os j left

@@ -1,12 +1,17 @@
 -- Which fragments came.
 use Rattle.std.proofs.Common.{◌≡◌, ℕ, zero, suc, ◌+◌, ◌-◌, ◌<◌, ◌≤◌, Bool, true, false, List, [], ◌∷◌, length, take, drop, set, replicate, get_or, refl, sym, ap, subst, ◌∙◌, inl, inr, arith}
-use Rattle.std.specs.Prelude.{◌⊎◌, ◌↔◌, Option, if◌then◌else◌}
+use Rattle.std.specs.Prelude.{◌⊎◌, ◌↔◌, ◌&&◌, is_none, Option, if◌then◌else◌}
 use Rattle.std.specs.List.{list_all}
 use Rattle.std.proofs.lemmas.List.{set-get_or, length-replicate, length-set}
-use Rattle.std.proofs.lemmas.Bool.{cases_eq, cases_lt, false≢true}
+use Rattle.std.proofs.lemmas.Bool.{cases_lt, false≢true, le-leb}
 use Rattle.rtps_frag.specs.Bodies.{Fragments}
-use Rattle.rtps_frag.specs.Samples.{Opened, fragments_in, opening, with_one, with_some, with_list, with_fragments, is_whole}
-use Rattle.rtps_frag.specs.Laws.{Brings, AnyBrings, behind_all, WholeWhereAllCame}
+use Rattle.rtps_frag.specs.Samples.{Opened, fragments_in, opening, with_one, with_some, with_list, with_fragments, is_whole, form_of, joined}
+use Rattle.dur_base.specs.declared.fact.Fact.{Fact}
+use Rattle.dur_base.specs.declared.fact.Fact.TheVariants as facts
+use Rattle.rtps_submsg.specs.declared.sub.DataSub.{DataSub}
+use Rattle.rtps_message.specs.declared.context.Context.{Context}
+use Rattle.rtps_message.specs.Facts.{data_fact}
+use Rattle.rtps_frag.specs.Laws.{Brings, AnyBrings, behind_all, WholeWhereAllCame, HasParts, ToldAsData}
 
 -- ---- marks
 
@@ -142,3 +147,15 @@ whole_where_all_came writer f xs = (
   ],
   λ all. whole_from (behind_all xs (opening writer f)).came (λ k within. all_there xs k (opening writer f) (all k (omega (arith, within, all_len xs (opening writer f), length-replicate (fragments_in f.head.size f.head.width) false)))),
 )
+
+-- ---- what a whole one tells
+
+both_ways : (b : Bool) (x y : Fact) → (if b then x else y) ≡ (if b && true then x else y)
+both_ways true x y = refl
+both_ways false x y = refl
+
+pub told_as_data : ToldAsData
+unfolding joined
+told_as_data c d o x =
+    let told : Fact = facts.Data o.writer o.reader o.number (record { hash = o.inline.hash; status = o.inline.status; stamp = o.time; lifespan = o.inline.lifespan; set = o.inline.set; original = o.inline.original; form = form_of o.is_key; payload = o.octets }) in
+    rw (x.writer, x.reader, x.number, x.time, x.inline, x.form, x.payload, le-leb (length o.octets) 65344 x.short) (both_ways (is_none o.inline.strange) told (facts.Unreadable o.writer o.reader o.number))

@@ -1,13 +1,13 @@
-//! Which fragments are asked for, and the message that asks for them (DDSI-RTPS 8.3.8.9, 9.4.5.11).
+//! Which fragments are asked for, and the message that asks for them (DDSI-RTPS 9.4.5).
 
 ghost use Rattle.std.specs.Prelude.{◌≡◌, ◌≤◌, ◌<◌, ◌+◌, ◌*◌, ◌/◌, ◌^◌, ◌++◌, [], ◌∷◌, not, length, get_or, take, drop, IfSome};
 ghost use Rattle.rtps_message.specs.Written.{message};
 ghost use Rattle.rtps_submsg.specs.declared.sub.Sub.TheVariants.{InfoDst};
 ghost use Rattle.rtps_frag.specs.Asking.{first_from, word_where, words_where, is_asked, asked, words_text, nack_sub, nack_message};
 
+use crate::sample::write_at;
 use arrayvec::ArrayVec;
 use dur_base::{Bits, EntityId, Guid, Number, Prefix, octets_of_sequence, u16_octets, u32_octets};
-use crate::sample::write_at;
 use rtps_message::write_message;
 use rtps_submsg::Sub;
 
@@ -173,14 +173,8 @@ fn write_start(from: Guid, to: Guid, out: &mut [u8]) -> usize
 
 /// Writes a NACK_FRAG of a reader, and says how many octets it takes: header, INFO_DST of the writer's
 /// participant, and the NACK_FRAG, all little-endian. It takes no memory. Conditions: `out` has 65,507 octets,
-/// and the ask's `count` is at most 256 (DDSI-RTPS 9.4.5.14).
-pub fn write_nack_frag(
-    from: Guid,
-    to: Guid,
-    ask: &FragAsk,
-    count: u32,
-    out: &mut [u8],
-) -> usize
+/// and the ask's `count` is at most 256 (DDSI-RTPS 9.4.5).
+pub fn write_nack_frag(from: Guid, to: Guid, ask: &FragAsk, count: u32, out: &mut [u8]) -> usize
     requires room { 65507 ≤ length out.old }
     requires bits { ask.now.count ≤ 256 }
     ensures len { result ≡ length (nack_message from to ask.now count) }

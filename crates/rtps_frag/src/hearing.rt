@@ -10,8 +10,8 @@ ghost use Rattle.rtps_frag.specs.Joining.{is_other, flags_of, body_of, ItemBreak
 use crate::asks::FragAsk;
 use crate::body::{has, read_beat, read_fragments};
 use crate::joiner::{Joined, Joiner};
-use dur_base::{Fact, Guid, List, OutOfMemory, Payload, Prefix};
 use bytes::Bytes;
+use dur_base::{Fact, Guid, List, OutOfMemory, Payload, Prefix};
 use rtps_message::{Context, End, begin};
 use rtps_submsg::{Sub, SubFault, read_sub};
 use std::alloc::Global;
@@ -86,7 +86,8 @@ impl Joiner {
         match &read_fragments(body, flags) {
             Err(fault) => Ok(Err(*fault)),
             Ok(sub) => {
-                if !context.is_for(own) {
+                let is_ours = context.is_for(own);
+                if !is_ours {
                     return Ok(Ok(Told {
                         len,
                         fact: None,
@@ -255,13 +256,8 @@ impl Joiner {
 
     /// What a datagram tells, with the samples that its fragments complete, how it ends, and the fragments to be
     /// asked for. `own` is the prefix of this participant. After `OutOfMemory`, which is want of memory alone,
-    /// every open sample is given up (DDSI-RTPS 8.3.8.3, 8.4.14).
-    pub fn hear(
-        &mut self,
-        alloc: Global,
-        bytes: &[u8],
-        own: Prefix,
-    ) -> Result<Joined, OutOfMemory>
+    /// every open sample is given up (DDSI-RTPS 8.3.8.3, 8.4.14.1).
+    pub fn hear(&mut self, alloc: Global, bytes: &[u8], own: Prefix) -> Result<Joined, OutOfMemory>
         ensures joins { IfOk result (λ h. Joins own bytes.now self.old h self.new) }
         ensures only { IfOk result (λ h. IsAll own bytes.now self.old h self.new) }
         ensures plain { IfOk result (λ h. IsAsEver own bytes.now self.old h self.new) }

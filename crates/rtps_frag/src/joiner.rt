@@ -38,7 +38,6 @@ pub struct Joiner {
 
 impl Model for Joiner {
     ghost use Rattle.rtps_frag.specs.Samples.{Opened};
-
     ghost use Rattle.std.specs.Prelude.{◌≡◌, ◌≤◌, List, take, length};
 
     ghost Value = { List Opened };

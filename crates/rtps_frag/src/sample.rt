@@ -8,7 +8,9 @@ ghost use lib.Seq.{paste};
 
 use crate::body::FragSub;
 use bytes::Bytes;
-use dur_base::{EntityId, Fact, Form, Guid, LONGEST_PAYLOAD, Number, OutOfMemory, Payload, Raw, Ticks};
+use dur_base::{
+    EntityId, Fact, Form, Guid, LONGEST_PAYLOAD, Number, OutOfMemory, Payload, Raw, Ticks,
+};
 use rtps_params::Inline;
 use std::alloc::Global;
 use std::marker::Model;
@@ -34,7 +36,6 @@ pub struct Slot {
 
 impl Model for Slot {
     ghost use Rattle.rtps_frag.specs.Samples.{Opened, IsOpened, missing_in};
-
     ghost use Rattle.std.specs.Prelude.{◌≡◌};
 
     ghost Value = { Opened };
