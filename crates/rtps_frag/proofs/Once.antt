@@ -1,5 +1,5 @@
 -- A message says one thing.
-use Rattle.std.proofs.Common.{◌≡◌, ℕ, ◌+◌, ◌-◌, ◌<◌, ◌≤◌, Bool, true, false, List, [], ◌∷◌, ◌++◌, length, take, drop, Option, Result, Ok, Err, refl, sym, ap, subst, ◌∙◌, arith, inl, inr}
+use Rattle.std.proofs.Common.{◌≡◌, ℕ, ◌+◌, ◌-◌, ◌<◌, Bool, true, false, List, [], ◌∷◌, ◌++◌, length, take, drop, Result, Ok, Err, refl, sym, ap, subst, ◌∙◌, arith, inl, inr}
 use Rattle.std.specs.Prelude.{map, ◌&&◌}
 use Rattle.std.specs.List.{list_all}
 use Rattle.std.specs.Option.{option_to_list}
@@ -16,7 +16,7 @@ use Rattle.rtps_submsg.specs.declared.sub.SubKind.{SubKind}
 use Rattle.rtps_submsg.specs.declared.sub.SubKind.TheVariants.{List as InList}
 use Rattle.rtps_submsg.specs.Rows.{has}
 use Rattle.rtps_submsg.specs.Data.{InlineSpells}
-use Rattle.rtps_submsg.specs.Subs.{SubSpells, SubBreaks, SameData, SameSub}
+use Rattle.rtps_submsg.specs.Subs.{SubSpells, SameData, SameSub}
 use Rattle.rtps_submsg.proofs.Unique.{ok_once, not_both, sub_once, sub_never, sub_breaks}
 use Rattle.rtps_message.specs.declared.context.Context.{Context}
 use Rattle.rtps_message.specs.declared.heard.End.{End}
@@ -30,9 +30,9 @@ use Rattle.rtps_frag.specs.declared.asks.FragAsk.{FragAsk}
 use Rattle.rtps_frag.specs.declared.body.FragBeat.{FragBeat}
 use Rattle.rtps_frag.specs.declared.body.Head.{Head}
 use Rattle.rtps_frag.specs.declared.joiner.Joined.{Joined}
-use Rattle.rtps_frag.specs.Bodies.{Fragments, FragmentsSpell, FragmentsBreak, IsListBroken, IsShort, head_at, beat_at, octets_of, behind}
+use Rattle.rtps_frag.specs.Bodies.{Fragments, FragmentsSpell, FragmentsBreak, IsListBroken, head_at, beat_at, octets_of, behind}
 use Rattle.rtps_frag.specs.Samples.{Opened}
-use Rattle.rtps_frag.specs.Joining.{Item, plain, pieces, beat, is_other, is_plain, flags_of, body_of, ItemSpells, ItemBreaks, Standing, Step, Told, step, and_then, told_of, Splits, StopsAt, Ends, Says, Joins, HasNoFragments, IsAsEver, IsAll}
+use Rattle.rtps_frag.specs.Joining.{Item, plain, pieces, beat, is_other, is_plain, flags_of, body_of, ItemSpells, ItemBreaks, Standing, Step, Told, step, and_then, told_of, Splits, StopsAt, Ends, Joins, HasNoFragments, IsAsEver, IsAll}
 
 -- ---- a DATA_FRAG
 

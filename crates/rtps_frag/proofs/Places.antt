@@ -1,12 +1,12 @@
 -- Places of open samples.
-use Rattle.std.proofs.Common.{◌≡◌, ℕ, zero, suc, ◌+◌, ◌-◌, ◌<◌, ◌≤◌, List, [], ◌∷◌, ◌++◌, length, take, drop, set, get_or, refl, ap, sym, ◌∙◌, append-nil, arith}
+use Rattle.std.proofs.Common.{◌≡◌, ℕ, zero, suc, ◌+◌, ◌-◌, ◌<◌, ◌≤◌, List, [], ◌∷◌, ◌++◌, length, take, drop, set, get_or, refl, ap, sym, ◌∙◌, arith}
 use Rattle.std.proofs.lemmas.List.{take-append-le, length-take, length-append}
 use Rattle.std.specs.List.{remove}
-use Rattle.std.specs.Prelude.{Bool, true, false, Option, Some, None, Result, Ok, Err, IfOk, if◌then◌else◌}
+use Rattle.std.specs.Prelude.{Bool, true, false, Option, Result, Ok, Err, IfOk, if◌then◌else◌}
 use Rattle.std.proofs.lemmas.Bool.{le-ltb}
 use Rattle.dur_base.specs.declared.fact.Fact.{Fact}
 use Rattle.rtps_frag.specs.Bodies.{Fragments}
-use Rattle.rtps_frag.specs.Samples.{Opened, is_alike, is_whole, joined, opening, with_fragments}
+use Rattle.rtps_frag.specs.Samples.{Opened, is_alike, opening, with_fragments}
 use Rattle.rtps_frag.specs.Joining.{After, settled, again, anew, with_room}
 
 -- one rotated to the end

@@ -1,7 +1,7 @@
 -- What the submessages that were read do and tell, and those that follow.
 use Rattle.std.proofs.Common.{◌≡◌, ℕ, ◌+◌, ◌-◌, ◌<◌, ◌≤◌, List, [], ◌∷◌, ◌++◌, length, drop, refl, sym, ap, subst, ◌∙◌, append_assoc, append-nil, inl, inr, length-append, arith}
 use Rattle.std.proofs.lemmas.List.{drop-drop, drop_all, length-drop}
-use Rattle.std.specs.Prelude.{Option, Some, None, Bool, true, false, Result, Ok, Err}
+use Rattle.std.specs.Prelude.{Option, None, Bool, true, false, Ok}
 use Rattle.std.specs.Int.{w16}
 use Rattle.dur_base.specs.Fields.{octets}
 use Rattle.rtps_submsg.specs.declared.sub.Sub.{Sub}
@@ -21,7 +21,7 @@ use Rattle.rtps_submsg.specs.declared.sub.SubKind.{SubKind}
 use Rattle.rtps_message.specs.declared.heard.End.TheVariants.{Whole, Stopped}
 use Rattle.rtps_frag.specs.declared.asks.FragAsk.{FragAsk}
 use Rattle.rtps_frag.specs.Samples.{Opened}
-use Rattle.rtps_frag.specs.Joining.{Item, plain, pieces, beat, flags_of, body_of, is_other, asked_in, with_pieces, ItemBreaks, Standing, Step, Goes, step, told_of, Splits, Says}
+use Rattle.rtps_frag.specs.Joining.{Item, plain, pieces, beat, flags_of, body_of, is_other, asked_in, with_pieces, ItemBreaks, Standing, Step, Goes, told_of, Splits, Says}
 
 -- all submessages, where these are the ones that are left
 pub record Covers (own bytes : List ℕ) (begin : Standing) (facts : List Fact) (asks : List FragAsk) (s : Standing) (items : List Item) (rest : List ℕ) : Type 0 where

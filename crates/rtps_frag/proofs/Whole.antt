@@ -1,17 +1,14 @@
 -- Which fragments came.
 use Rattle.std.proofs.Common.{◌≡◌, ℕ, zero, suc, ◌+◌, ◌-◌, ◌<◌, ◌≤◌, Bool, true, false, List, [], ◌∷◌, length, take, drop, set, replicate, get_or, refl, sym, ap, subst, ◌∙◌, inl, inr, arith}
-use Rattle.std.specs.Prelude.{◌⊎◌, ◌↔◌, ◌&&◌, is_none, Option, if◌then◌else◌}
+use Rattle.std.specs.Prelude.{◌⊎◌, ◌&&◌, is_none, Option, if◌then◌else◌}
 use Rattle.std.specs.List.{list_all}
 use Rattle.std.proofs.lemmas.List.{set-get_or, length-replicate, length-set}
 use Rattle.std.proofs.lemmas.Bool.{cases_lt, false≢true, le-leb}
 use Rattle.rtps_frag.specs.Bodies.{Fragments}
-use Rattle.rtps_frag.specs.Samples.{Opened, fragments_in, opening, with_one, with_some, with_list, with_fragments, is_whole, form_of, joined}
+use Rattle.rtps_frag.specs.Samples.{Opened, fragments_in, opening, with_one, with_some, with_list, with_fragments, form_of, joined}
 use Rattle.dur_base.specs.declared.fact.Fact.{Fact}
 use Rattle.dur_base.specs.declared.fact.Fact.TheVariants as facts
-use Rattle.rtps_submsg.specs.declared.sub.DataSub.{DataSub}
-use Rattle.rtps_message.specs.declared.context.Context.{Context}
-use Rattle.rtps_message.specs.Facts.{data_fact}
-use Rattle.rtps_frag.specs.Laws.{Brings, AnyBrings, behind_all, WholeWhereAllCame, HasParts, ToldAsData}
+use Rattle.rtps_frag.specs.Laws.{Brings, AnyBrings, behind_all, WholeWhereAllCame, ToldAsData}
 
 -- ---- marks
 

@@ -1,8 +1,7 @@
 -- What a participant hears in a list of datagrams, where samples come in fragments.
-use Rattle.std.specs.Prelude.{◌≡◌, ◌⊎◌, ℕ, suc, ◌+◌, ◌-◌, ◌<◌, ◌≤◌, Bool, true, false, List, [], ◌∷◌, ◌++◌, length, map, take, drop, get_or, set, Option, Some, None, Ok, Err, nat_lt, nat_le, ◌==◌, ◌&&◌, not, slice_index, if◌then◌else◌}
+use Rattle.std.specs.Prelude.{◌≡◌, ◌⊎◌, ℕ, ◌+◌, ◌-◌, ◌<◌, ◌≤◌, Bool, true, false, List, [], ◌∷◌, ◌++◌, length, map, take, drop, get_or, set, Option, Some, None, Ok, Err, nat_lt, nat_le, ◌==◌, ◌&&◌, not, slice_index, if◌then◌else◌}
 use Rattle.std.specs.Option.{option_to_list}
 use Rattle.std.specs.List.{remove, list_all}
-use Rattle.std.specs.Str.{bytes_eq}
 use Rattle.dur_base.specs.declared.fact.Fact.{Fact}
 use Rattle.dur_base.specs.declared.fact.Fact.TheVariants as facts
 use Rattle.rtps_submsg.specs.declared.sub.Sub.{Sub}

@@ -1,4 +1,4 @@
-use Rattle.std.proofs.Common.{◌≡◌, ◌<◌, length, take, arith}
+use Rattle.std.proofs.Common.{◌<◌, length, take, arith}
 use Rattle.rtps_frag.proofs.Places.{closed_at}
 use Rattle.rtps_frag.proofs.joiner.Joiner.close.Goals as goal
 

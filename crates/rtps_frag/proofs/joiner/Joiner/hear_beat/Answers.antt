@@ -1,4 +1,4 @@
-use Rattle.std.proofs.Common.{◌∙◌, ◌++◌, sym}
+use Rattle.std.proofs.Common.{◌∙◌, sym}
 use Rattle.rtps_frag.proofs.Runs.{beat_read, beat_idle, beat_asks}
 use Rattle.rtps_frag.proofs.joiner.Joiner.hear_beat.Goals as goal
 
