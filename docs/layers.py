@@ -8,11 +8,11 @@ LAYERS = [
     ("storage", [("dur_record", "texts of a journal"), ("dur_journal", "two files, any crash")]),
     ("histories", [("dur_store", "history of all topics"), ("dur_view", "definitions and laws")]),
     ("streams", [("dur_capture", "records of a capture"), ("dur_qos", "plan text"), ("rel_reader", "known numbers")]),
-    ("wire", [("rtps_params", "parameter lists"), ("rtps_submsg", "submessages"), ("rtps_message", "facts, keys, messages")]),
+    ("wire", [("rtps_params", "parameter lists"), ("rtps_submsg", "submessages"), ("rtps_message", "facts, keys, messages"), ("rtps_frag", "fragments joined")]),
     ("threads", [("dur_turn", "one call at a time"), ("turn_uses", "uses of a turn, tests")]),
     ("below all", [("dur_outside", "files, sockets, streams"), ("dur_base", "values, octets")]),
 ]
-WIDTH, LEFT, BOX, TALL, GAP, ROW = 740, 130, 178, 44, 18, 70
+WIDTH, LEFT, BOX, TALL, GAP, ROW = 936, 130, 178, 44, 18, 70
 WAY = "#b3541e"
 
 

@@ -7,5 +7,6 @@ if [ ! -d "$captures" ]; then echo "tests/captures.sh: skipped, no captures in $
 if ! command -v python3 > /dev/null; then echo "tests/captures.sh: skipped, python3 is missing"; exit 0; fi
 tests/captures/inline_lists.sh
 tests/captures/submessages.sh
+tests/captures/fragments.sh
 tests/captures/show.sh
 tests/captures/list.sh

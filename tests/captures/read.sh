@@ -23,8 +23,12 @@ copy=$(mktemp -d)
 trap 'rm -rf "$copy"' EXIT
 mkdir "$copy/crates"
 cp "$root/HANDLES" "$copy/"
-grep -E '^(dur_base|rtps_params|rtps_submsg):' "$root/crates.txt" >"$copy/crates.txt"
-for name in dur_base rtps_params rtps_submsg; do
+names="dur_base rtps_params rtps_submsg"
+case $crate in
+    rtps_frag) names="$names rtps_message rtps_frag" ;;
+esac
+for name in $names; do
+    grep "^$name:" "$root/crates.txt" >>"$copy/crates.txt"
     mkdir "$copy/crates/$name"
     for part in src specs proofs; do
         cp -R "$root/crates/$name/$part" "$copy/crates/$name/"

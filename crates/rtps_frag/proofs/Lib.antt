@@ -1,0 +1,6 @@
+pub mod Pieces
+pub mod Words
+pub mod Places
+pub mod Runs
+pub mod Whole
+pub mod Once

@@ -1,0 +1,5 @@
+pub mod Bodies
+pub mod Samples
+pub mod Joining
+pub mod Asking
+pub mod Laws
