@@ -326,6 +326,21 @@ fn each_call_fails_in_turn(rt: HostRuntime) {
     assert!(rt; matches!(&done.status, Status::NotAJournal(FileId::Zero, 0)));
 }
 
+#[test]
+fn nothing_is_written_for_want_of_memory(rt: HostRuntime) {
+    let alloc = rt.alloc();
+    let one = newer(alloc);
+    let done = run(alloc, EMPTY, one.as_slice(), None, None);
+    let none = done.out.written().as_slice().is_empty();
+    // With an allocation that fails, the run may be cut short; it is said, and nothing goes out.
+    assert!(rt;
+        matches!(
+            &done.status,
+            Status::OutOfMemory | Status::DiskFault | Status::WriteFault
+        ) == none
+    );
+}
+
 /// The first break of these files, where a journal is refused for it.
 fn refusal(alloc: Global, zero: &[u8], one: &[u8]) -> Option<(FileId, u64)> {
     let plan = plan_of(alloc, TWO_DEEP)?;
