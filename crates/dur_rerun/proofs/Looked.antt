@@ -1,10 +1,9 @@
 -- What both files keep, from what each is by itself.
-use Rattle.std.proofs.Common.{◌≡◌, ◌≢◌, ℕ, ◌+◌, ◌==◌, Bool, true, false, cond, not, List, [], ◌++◌, map, length, Option, Some, None, Result, Ok, Err, refl, sym, ap, subst, ◌∙◌, append-nil, inl, inr}
+use Rattle.std.proofs.Common.{◌≡◌, ℕ, ◌==◌, Bool, true, false, not, List, [], length, Option, Some, None, Result, Ok, Err, refl, sym, ap, subst, ◌∙◌, append-nil, inl, inr}
 use Rattle.std.specs.Prelude.{if◌then◌else◌, nat_lt}
 use Rattle.dur_outside.specs.declared.values.FileId.{FileId}
 use Rattle.dur_outside.specs.declared.values.FileId.TheVariants.{Zero, One}
 use Rattle.dur_outside.specs.World.{Image, content}
-use Rattle.dur_qos.specs.declared.plan.Plan.{Plan}
 use Rattle.dur_qos.specs.declared.plan.Topic.{Topic}
 use Rattle.dur_view.specs.declared.data.KeptWriter.{KeptWriter}
 use Rattle.dur_view.specs.declared.data.View.{View}
@@ -14,16 +13,16 @@ use Rattle.dur_view.specs.Persistent.{persistent_plan}
 use Rattle.dur_journal.specs.Histories.{view_of, completed, blank_of}
 use Rattle.dur_journal.specs.declared.front.Front.{Front}
 use Rattle.dur_journal.specs.declared.front.Front.TheVariants as front
-use Rattle.dur_journal.specs.File.{front_in, records_text, FileText, TextBreaks}
-use Rattle.dur_journal.specs.Kept.{generation_of, newest, live_of, live_in, Kept, KeepsBy, Keeps}
+use Rattle.dur_journal.specs.File.{front_in, records_text}
+use Rattle.dur_journal.specs.Kept.{generation_of, newest, live_of, live_in, Kept, KeepsBy}
 use Rattle.dur_journal.specs.Looks.{IsOpenFile, IsBrokenFile, LooksLike}
 use Rattle.dur_journal.specs.declared.seen.Look.{Look}
 use Rattle.dur_journal.specs.declared.seen.Look.TheVariants.{Blank, Closed, Open, Broken}
 use Rattle.dur_journal.proofs.Lives.{kept_new}
-use Rattle.dur_journal.proofs.Once.{SameText, text_once, never_both, break_once, keeps_once}
+use Rattle.dur_journal.proofs.Once.{text_once, never_both, break_once, keeps_once}
 use Rattle.dur_rerun.specs.declared.check.looks.Looks.{Looks}
 use Rattle.dur_rerun.specs.Check.Line.{kept_text, live_text}
-use Rattle.dur_rerun.specs.Check.Looks.{AreLooks, break_of, first_of, first_broken, open_generation, are_equal, unless_broken, live_unless, prints_changes, no_plan, KeepsChanges, PrintsChanges, live_file, view_at, live_view}
+use Rattle.dur_rerun.specs.Check.Looks.{AreLooks, break_of, first_of, open_generation, are_equal, unless_broken, live_unless, prints_changes, no_plan, KeepsChanges, PrintsChanges, live_file, view_at, live_view}
 
 -- ---- a plan that declares nothing adds nothing
 
