@@ -65,6 +65,7 @@ pub fn look<D: Disk>(alloc: Global, disk: &mut D, file: FileId) -> Result<Look, 
     ensures clean { D.tells → IsClean (D.world disk.old) → IsClean (D.world disk.new) }
     ensures keeps { D.sink_faults disk.new ≡ D.sink_faults disk.old }
     ensures cause { IfErr result (λ e. e ≡ LookFault.Disk → Rose (D.disk_faults disk.old) (D.disk_faults disk.new)) }
+    ensures later { D.disk_faults disk.old ≤ D.disk_faults disk.new }
 {
     match read_file(alloc, disk, file) {
         Ok(octets) => look_at(alloc, octets),

@@ -54,37 +54,52 @@ out_all l text s tells old mid new are is ended same written =
 
 -- ---- why it ended
 
-pub found_reason : (broken : Option (FileId × ℕ)) (s : Status) (writes writes_now : ℕ) → s ≡ found broken → HasCheckReason s writes writes_now
-found_reason None s writes writes_now is = record { ends = subst CheckEnds (sym is) tt; write = λ w. absurd (let both = sym is ∙ w in cc) }
-found_reason (Some broken) s writes writes_now is = record { ends = subst CheckEnds (sym is) tt; write = λ w. absurd (let both = sym is ∙ w in cc) }
+pub found_reason : (broken : Option (FileId × ℕ)) (s : Status) (disks disks_now writes writes_now : ℕ) → s ≡ found broken → HasCheckReason s disks disks_now writes writes_now
+found_reason None s disks disks_now writes writes_now is = record {
+  ends = subst CheckEnds (sym is) tt;
+  disk = λ d. absurd (let both = sym is ∙ d in cc);
+  write = λ w. absurd (let both = sym is ∙ w in cc);
+}
+found_reason (Some broken) s disks disks_now writes writes_now is = record {
+  ends = subst CheckEnds (sym is) tt;
+  disk = λ d. absurd (let both = sym is ∙ d in cc);
+  write = λ w. absurd (let both = sym is ∙ w in cc);
+}
 
-pub early_reason : (s : Status) (writes writes_now : ℕ) → (s ≡ DiskFault) ⊎ (s ≡ OutOfMemory) → HasCheckReason s writes writes_now
-early_reason s writes writes_now why = elim why [
-  | inl disk ↦ (record { ends = subst CheckEnds (sym disk) tt; write = λ w. absurd (let both = sym disk ∙ w in cc) })
-  | inr memory ↦ (record { ends = subst CheckEnds (sym memory) tt; write = λ w. absurd (let both = sym memory ∙ w in cc) })
+pub early_reason : (s : Status) (disks disks_now writes writes_now : ℕ) → (s ≡ DiskFault) ⊎ (s ≡ OutOfMemory) → (s ≡ DiskFault → Rose disks disks_now) → HasCheckReason s disks disks_now writes writes_now
+early_reason s disks disks_now writes writes_now why rose = elim why [
+  | inl disk ↦ (record { ends = subst CheckEnds (sym disk) tt; disk = rose; write = λ w. absurd (let both = sym disk ∙ w in cc) })
+  | inr memory ↦ (record { ends = subst CheckEnds (sym memory) tt; disk = rose; write = λ w. absurd (let both = sym memory ∙ w in cc) })
 ]
 
-pub cut_reason : (s : Status) (writes writes_now : ℕ) → s ≡ WriteFault → Rose writes writes_now → HasCheckReason s writes writes_now
-cut_reason s writes writes_now is rose = record { ends = subst CheckEnds (sym is) tt; write = λ w. rose }
+pub memory_reason : (disks disks_now writes writes_now : ℕ) → HasCheckReason OutOfMemory disks disks_now writes writes_now
+memory_reason disks disks_now writes writes_now = record { ends = tt; disk = λ d. absurd cc; write = λ w. absurd cc }
+
+pub cut_reason : (s : Status) (disks disks_now writes writes_now : ℕ) → s ≡ WriteFault → Rose writes writes_now → HasCheckReason s disks disks_now writes writes_now
+cut_reason s disks disks_now writes writes_now is rose = record {
+  ends = subst CheckEnds (sym is) tt;
+  disk = λ d. absurd (let both = sym is ∙ d in cc);
+  write = λ w. rose;
+}
 
 -- ---- the answer comes, and there is one
 
 same_broken : (files : Image) (text : List ℕ) (broken : Option (FileId × ℕ)) (looks : Looks) → Checks files text broken → AreLooks files looks → broken ≡ first_broken looks
 same_broken files text broken looks c are = c.first ∙ ap first_broken (looks_once files c.looks looks c.are are)
 
-pub completes : (s : Status) (files : Image) (text : List ℕ) (writes writes_now : ℕ) → CheckAnswers files text s → HasCheckReason s writes writes_now → IsComplete files s writes writes_now
-completes Done files text writes writes_now a r looks are disk write = inl (ap found (same_broken files text None looks a are))
-completes (NotAJournal file at) files text writes writes_now a r looks are disk write = inl (ap found (same_broken files text (Some (file, at)) looks a are))
-completes OutOfMemory files text writes writes_now a r looks are disk write = inr refl
-completes WriteFault files text writes writes_now a r looks are disk write = absurd (write (r.write refl))
-completes DiskFault files text writes writes_now a r looks are disk write = absurd (disk refl)
-completes Usage files text writes writes_now a r looks are disk write = absurd a
-completes (Input place fault) files text writes writes_now a r looks are disk write = absurd a
-completes ReadFault files text writes writes_now a r looks are disk write = absurd a
-completes (Plan line kind) files text writes writes_now a r looks are disk write = absurd a
-completes (PlanDiffers name) files text writes writes_now a r looks are disk write = absurd a
-completes (Full size) files text writes writes_now a r looks are disk write = absurd a
-completes Worn files text writes writes_now a r looks are disk write = absurd a
+pub completes : (s : Status) (files : Image) (text : List ℕ) (disks disks_now writes writes_now : ℕ) → CheckAnswers files text s → HasCheckReason s disks disks_now writes writes_now → IsComplete files s disks disks_now writes writes_now
+completes Done files text disks disks_now writes writes_now a r looks are disk write = inl (ap found (same_broken files text None looks a are))
+completes (NotAJournal file at) files text disks disks_now writes writes_now a r looks are disk write = inl (ap found (same_broken files text (Some (file, at)) looks a are))
+completes OutOfMemory files text disks disks_now writes writes_now a r looks are disk write = inr refl
+completes WriteFault files text disks disks_now writes writes_now a r looks are disk write = absurd (write (r.write refl))
+completes DiskFault files text disks disks_now writes writes_now a r looks are disk write = absurd (disk (r.disk refl))
+completes Usage files text disks disks_now writes writes_now a r looks are disk write = absurd a
+completes (Input place fault) files text disks disks_now writes writes_now a r looks are disk write = absurd a
+completes ReadFault files text disks disks_now writes writes_now a r looks are disk write = absurd a
+completes (Plan line kind) files text disks disks_now writes writes_now a r looks are disk write = absurd a
+completes (PlanDiffers name) files text disks disks_now writes writes_now a r looks are disk write = absurd a
+completes (Full size) files text disks disks_now writes writes_now a r looks are disk write = absurd a
+completes Worn files text disks disks_now writes writes_now a r looks are disk write = absurd a
 
 -- a status that says what the files call for is that of their text
 record Told (files : Image) (text : List ℕ) (s : Status) : Type 0 where

@@ -32,7 +32,8 @@ fn verdict(looks: &Looks) -> Result<(), Status>
 
 /// Looks at both files, and then prints what they are.
 fn run<R: Rig>(alloc: Global, rig: &mut R) -> Result<(), Status>
-    ensures reason { HasCheckReason (status_of result) (R.sink_faults rig.old) (R.sink_faults rig.new) }
+    ensures reason { HasCheckReason (status_of result) (R.disk_faults rig.old) (R.disk_faults rig.new)
+        (R.sink_faults rig.old) (R.sink_faults rig.new) }
     ensures out { R.tells → GoesOut CheckAnswers (R.world rig.old).now (status_of result) R.tells
         (R.world rig.old).now (R.world rig.new).now }
 {
@@ -50,8 +51,10 @@ fn run<R: Rig>(alloc: Global, rig: &mut R) -> Result<(), Status>
 /// A broken file is `NotAJournal` with its place once the whole text is written: file 0 before file 1. A disk fault or
 /// want of memory comes before anything is written. No file is changed, and no input is read.
 pub fn check<R: Rig>(alloc: Global, rig: R) -> Ran<R>
-    ensures reason { HasCheckReason result.status (R.sink_faults rig) (R.sink_faults result.rig) }
-    ensures complete { R.tells → IsComplete (R.world rig).now result.status (R.sink_faults rig) (R.sink_faults result.rig) }
+    ensures reason { HasCheckReason result.status (R.disk_faults rig) (R.disk_faults result.rig)
+        (R.sink_faults rig) (R.sink_faults result.rig) }
+    ensures complete { R.tells → IsComplete (R.world rig).now result.status
+        (R.disk_faults rig) (R.disk_faults result.rig) (R.sink_faults rig) (R.sink_faults result.rig) }
     ensures out { R.tells → GoesOut CheckAnswers (R.world rig).now result.status R.tells
         (R.world rig).now (R.world result.rig).now }
 {

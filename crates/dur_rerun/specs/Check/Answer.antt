@@ -46,14 +46,16 @@ CheckEnds (NotAJournal file at) = Unit {0}
 CheckEnds other = ⊥
 
 -- Each status has its reason.
-pub record HasCheckReason (s : Status) (writes writes_now : ℕ) : Type 0 where
+pub record HasCheckReason (s : Status) (disks disks_now writes writes_now : ℕ) : Type 0 where
   -- it is one with which the command ends
   pub ends : CheckEnds s
+  -- a call on a file failed
+  pub disk : s ≡ DiskFault → Rose disks disks_now
   -- a write failed
   pub write : s ≡ WriteFault → Rose writes writes_now
 
 -- Where no call failed the status is that of the first broken file, or memory ran out. Nothing else is read.
-abbrev pub IsComplete : Image → Status → ℕ → ℕ → Type 0
-IsComplete files s writes writes_now =
-    (looks : Looks) → AreLooks files looks → (s ≡ DiskFault → ⊥) → (Rose writes writes_now → ⊥)
+abbrev pub IsComplete : Image → Status → ℕ → ℕ → ℕ → ℕ → Type 0
+IsComplete files s disks disks_now writes writes_now =
+    (looks : Looks) → AreLooks files looks → (Rose disks disks_now → ⊥) → (Rose writes writes_now → ⊥)
     → (s ≡ found (first_broken looks)) ⊎ (s ≡ OutOfMemory)

@@ -1,6 +1,7 @@
 //! What the two files of a journal are, each by itself.
 
 ghost use Rattle.std.specs.Prelude.{◌≡◌, ◌⊎◌, IfOk, IfErr, option_copied};
+ghost use Rattle.dur_outside.specs.Causes.{Rose};
 ghost use Rattle.dur_rerun.specs.Check.Looks.{AreLooks, break_of, first_broken, live_file, live_view, look_status, open_generation, open_view};
 
 use crate::Status;
@@ -31,6 +32,7 @@ impl From<LookFault> for Status {
 pub fn look_at_both<D: Disk>(alloc: Global, disk: &mut D) -> Result<Looks, Status>
     ensures ok { D.tells → IfOk result (AreLooks (D.world disk.old).now) }
     ensures err { IfErr result (λ s. (s ≡ Status.DiskFault) ⊎ (s ≡ Status.OutOfMemory)) }
+    ensures cause { IfErr result (λ s. s ≡ Status.DiskFault → Rose (D.disk_faults disk.old) (D.disk_faults disk.new)) }
     ensures same { D.tells → (D.world disk.new).now ≡ (D.world disk.old).now }
     ensures keeps { D.sink_faults disk.new ≡ D.sink_faults disk.old }
 {
