@@ -86,14 +86,3 @@ nobody_overdue due now [] no1 all = refl
 nobody_overdue due now (w ∷ ws) no1 all =
     ap (λ b. cond b (w ∷ filter (is_overdue now) ws) (filter (is_overdue now) ws)) (all.0 now no1)
     ∙ nobody_overdue due now ws no1 all.1
-
--- a line that is lost, and one without a lease
-pub none_late : (lost past b : Bool) → lost ≡ true → b ≡ false → b ≡ (not lost && past)
-none_late true past b is no1 = no1
-none_late false past b is no1 = absurd (cc)
-
-pub late_by : (line : Line) (lease : Option ℕ) (now : ℕ) → line.lost ≡ false → line.lease ≡ lease
-    → is_past lease line.heard now ≡ is_late line now
-late_by line lease now no1 is =
-    ap (λ x. is_past x line.heard now) (sym is)
-    ∙ ap (λ b. not b && is_past line.lease line.heard now) (sym no1)

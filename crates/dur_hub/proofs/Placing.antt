@@ -24,12 +24,13 @@ use Rattle.dur_hub.specs.declared.telling.Address.{Address}
 use Rattle.dur_hub.specs.Telling.{every_reader, is_for, speaks_of}
 use Rattle.dur_view.specs.Stored.{stored, durable_part, is_stored}
 use Rattle.dur_hub.specs.Runs.{Writer, Run}
-use Rattle.dur_hub.specs.Steps.{speaker, HearsBy, LegalStep, spoken, with_speaker}
+use Rattle.dur_hub.specs.Steps.{speaker, Hears, HearsBy, LegalStep, spoken, with_speaker}
 use Rattle.dur_hub.specs.Handed.{ack_of}
 use Rattle.dur_hub.specs.GoodRuns.{GoodWriter, Out, Apart}
 use Rattle.dur_hub.specs.Lines.{LineFits, LinesFit, step_of, Speaks}
 use Rattle.dur_hub.specs.Looks.{is_late}
 use Rattle.dur_hub.specs.Dues.{is_after, AreDue}
+use Rattle.dur_hub.specs.Queues.{LedgerAt}
 use Rattle.dur_hub.specs.Hubs.{StandsAt}
 use Rattle.dur_hub.specs.Places.{guids, guids_of, IsPlaceOf, HasNone, IsIndex}
 use Rattle.dur_hub.specs.Hearings.{address_of, is_to, refusal_at, writer_in, OneStep, HearsTo, hearing_of}
@@ -200,66 +201,66 @@ module _ (plan : Plan) (h : History) (d : ℕ) (f : Fact) (a : Address) (by : ad
       (sym (is_to_is plan h d l w f a fit.0 by) ∙ not_here l (λ e. ne (sym fit.0.guid ∙ e)))
       ∙ not_for_it i ls ws x fit.1 apart.1 at is
 
--- a fact of a writer of the plan
-pub one_step : (l : Ledger) (ls : List Line) (index : Guid → Option ℕ) (m i : ℕ) (f : Fact) (a : Address) (x : Heeded) (notes mid : Notes) (l' : Ledger) (line line' : Line) (notes' : Notes)
-    → IsGoodFact f → address_of f ≡ Some a
-    → (IsIndex index (guids ls) → IsPlaceOf (guids ls) i a.writer) → is_to line a ≡ true
-    → line ≡ get_or ls i line → (speaks : Speaks l line m f x l' line')
-    → mid.acks.items ≡ notes.acks.items → mid.refused.items ≡ notes.refused.items
-    → notes'.acks.items ≡ mid.acks.items ++ ack_of x.ack
-    → notes'.refused.items ≡ mid.refused.items ++ refusal_at a.writer x.end
-    → ((now : ℕ) → is_after notes'.due now ≡ (is_after notes.due now || is_late line' now))
-    → OneStep l ls index m f notes l' (set ls i line') notes' (step_of f speaks.entries x)
-one_step l ls index m i f a x notes mid l' line line' notes' fine by place own at speaks acks0 refused0 acks refused due = record {
-  fact = refl;
-  acks = acks ∙ ap (λ k. k ++ ack_of x.ack) acks0;
-  refused =
-      refused ∙ ap (λ k. k ++ refusal_at a.writer x.end) refused0
-      ∙ ap (λ o. notes.refused.items ++ refusal_at (writer_in o) x.end) (sym by);
-  due = λ r st ix is all.
+-- a fact of the writer of a line, and what stands after it
+module _ (l : Ledger) (ls : List Line) (index : Guid → Option ℕ) (m i : ℕ) (f : Fact) (a : Address) (x : Heeded) (l' : Ledger) (line line' : Line) (by : address_of f ≡ Some a) (place : IsIndex index (guids ls) → IsPlaceOf (guids ls) i a.writer) (own : is_to line a ≡ true) (at : line ≡ get_or ls i line) (speaks : Speaks l line m f x l' line') where
+  record Spoke (r : Run) : Type 0 where
+    pub picked : Picked r.plan r.history r.durable f a by ls r.writers i line
+    pub hears : Hears r picked.writer (step_of f speaks.entries x)
+    pub ledger : LedgerAt l' (r.history +> speaks.entries) r.taken r.durable
+    pub fits : LineFits r.plan (r.history +> speaks.entries) r.durable line' (spoken r (step_of f speaks.entries x) picked.writer)
+
+  spoke : (r : Run) → StandsAt l ls r → IsIndex index (guids_of r.writers) → r.moment ≡ m → Spoke r
+  spoke r st ix is =
       let p =
       picks r.plan r.history r.durable f a by i ls r.writers line st.lines st.good.apart
       (place (index_lines r.plan r.history r.durable index ls r.writers st.lines ix))
       (subst (λ q. is_to q a ≡ true) at own) in
-      let w : Writer = p.writer in
-      let step : Step = step_of f speaks.entries x in
-      let fits : LineFits r.plan r.history r.durable line w =
-      subst (λ q. LineFits r.plan r.history r.durable q w) (sym at) p.fits in
-      let good : GoodWriter r.history r.plan w =
-      speaker_good r.plan f r.history r.writers w st.good.writers p.found in
-      let b = speaks.holds r w st.ledger fits good st.good.history st.good.early is in
-      let ends : (now : ℕ) → is_after notes'.due now ≡ false
-      → (is_after notes.due now ≡ false) × (is_late line' now ≡ false) =
-      λ now no1. neither (is_after notes.due now) (is_late line' now) (sym (due now) ∙ no1) in
-      with_due r.plan f notes'.due notes.due (spoken r step) r.writers w p.found
-      (λ now no1. (ends now no1).0) all
-      (line_due r.plan (r.history +> speaks.entries) r.durable notes'.due line' (spoken r step w) b.2 (λ now no1. (ends now no1).1));
-  holds = λ r st ix is.
-      let d : ℕ = r.durable in
-      let es : List Entry = speaks.entries in
-      let h' : History = r.history +> es in
-      let step : Step = step_of f es x in
-      let p =
-      picks r.plan r.history d f a by i ls r.writers line st.lines st.good.apart
-      (place (index_lines r.plan r.history r.durable index ls r.writers st.lines ix))
-      (subst (λ q. is_to q a ≡ true) at own) in
-      let w : Writer = p.writer in
-      let fits : LineFits r.plan r.history d line w =
-      subst (λ q. LineFits r.plan r.history d q w) (sym at) p.fits in
-      let good : GoodWriter r.history r.plan w =
-      speaker_good r.plan f r.history r.writers w st.good.writers p.found in
-      let b = speaks.holds r w st.ledger fits good st.good.history st.good.early is in
-      let legal : LegalStep r step = subst (HearsBy r step) (sym p.found) b.0 in
-      let within : d ≤ length (stored r.history) = omega (arith, st.good.durable, st.good.taken) in
-      let same : Same r.history h' d = record { begun = start_extend r.history es; kept = durable_extend r.history es d within } in (
-        legal,
-        record {
-          ledger = b.1;
-          lines = p.put h' line' (spoken r step) same b.2;
-          good = good_step r step st.good fine legal;
-        },
-      );
-}
+      let fits : LineFits r.plan r.history r.durable line p.writer =
+      subst (λ q. LineFits r.plan r.history r.durable q p.writer) (sym at) p.fits in
+      let good : GoodWriter r.history r.plan p.writer =
+      speaker_good r.plan f r.history r.writers p.writer st.good.writers p.found in
+      let b = speaks.holds r p.writer st.ledger fits good st.good.history st.good.early is in
+      record { picked = p; hears = b.0; ledger = b.1; fits = b.2 }
+
+  -- a fact of a writer of the plan
+  pub one_step : (notes mid notes' : Notes) → IsGoodFact f
+      → mid.acks.items ≡ notes.acks.items → mid.refused.items ≡ notes.refused.items
+      → notes'.acks.items ≡ mid.acks.items ++ ack_of x.ack
+      → notes'.refused.items ≡ mid.refused.items ++ refusal_at a.writer x.end
+      → ((now : ℕ) → is_after notes'.due now ≡ (is_after notes.due now || is_late line' now))
+      → OneStep l ls index m f notes l' (set ls i line') notes' (step_of f speaks.entries x)
+  one_step notes mid notes' fine acks0 refused0 acks refused due = record {
+    fact = refl;
+    acks = acks ∙ ap (λ k. k ++ ack_of x.ack) acks0;
+    refused =
+        refused ∙ ap (λ k. k ++ refusal_at a.writer x.end) refused0
+        ∙ ap (λ o. notes.refused.items ++ refusal_at (writer_in o) x.end) (sym by);
+    due = λ r st ix is all.
+        let b = spoke r st ix is in
+        let step : Step = step_of f speaks.entries x in
+        let ends : (now : ℕ) → is_after notes'.due now ≡ false
+        → (is_after notes.due now ≡ false) × (is_late line' now ≡ false) =
+        λ now no1. neither (is_after notes.due now) (is_late line' now) (sym (due now) ∙ no1) in
+        with_due r.plan f notes'.due notes.due (spoken r step) r.writers b.picked.writer
+        b.picked.found (λ now no1. (ends now no1).0) all
+        (line_due r.plan (r.history +> speaks.entries) r.durable notes'.due line' (spoken r step b.picked.writer) b.fits (λ now no1. (ends now no1).1));
+    holds = λ r st ix is.
+        let b = spoke r st ix is in
+        let es : List Entry = speaks.entries in
+        let h' : History = r.history +> es in
+        let step : Step = step_of f es x in
+        let legal : LegalStep r step = subst (HearsBy r step) (sym b.picked.found) b.hears in
+        let within : r.durable ≤ length (stored r.history) =
+        omega (arith, st.good.durable, st.good.taken) in
+        let same : Same r.history h' r.durable = record { begun = start_extend r.history es; kept = durable_extend r.history es r.durable within } in (
+          legal,
+          record {
+            ledger = b.ledger;
+            lines = b.picked.put h' line' (spoken r step) same b.fits;
+            good = good_step r step st.good fine legal;
+          },
+        );
+  }
 
 -- a fact that is none of a writer of the plan
 pub no_step : (l : Ledger) (ls : List Line) (index : Guid → Option ℕ) (m : ℕ) (f : Fact) (notes : Notes) → IsGoodFact f

@@ -141,7 +141,8 @@ impl Hub {
         })
     }
 
-    /// The lease step at the moment that the call uses, where a lease may have ended by then. False: there was no memory for one of its losses.
+    /// The lease step at the moment that the call uses, where a lease may have ended by then. False: there was no memory for
+    /// one of its losses.
     pub(crate) fn begin(&mut self, moment: Ticks) -> bool
         ensures { Begins self.old moment result self.new }
     {
