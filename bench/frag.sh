@@ -1,7 +1,7 @@
 #!/usr/bin/env bash
 # Samples per second of 65,344 octets that are heard as one DATA, in fragments of 1,344 octets in order, and in the same
-# fragments in reverse. Each line has its ratio to the DATA; it ends with the status 1 where fragments are ten times
-# slower than that.
+# fragments in reverse. Each line has its ratio to the DATA; it ends with the status 1 where one order of fragments is ten
+# times slower than the other.
 #
 # Writes a small program into a folder of its own under the system's temporary folder, with copies of the crates that
 # it stands on, has it proved and compiled there, runs it, and removes the folder.
@@ -128,12 +128,12 @@ fi
 awk -v wanted="$samples" '
     /^(data|in-order|in-reverse) / {
         if ($2 != wanted) { print $1 ": " $2 " were told, and not " wanted; bad = 1 }
-        name[++lines] = $1; speed[lines] = $3; if ($1 == "data") best = $3
+        name[++lines] = $1; speed[lines] = $3; if ($1 == "data") whole = $3; else if ($3 > best) best = $3
     }
     END {
         if (lines != 3) exit 1
         for (i = 1; i <= lines; i++) {
-            printf "%s: %d samples a second, ratio %.2f\n", name[i], speed[i], speed[i] / best
+            printf "%s: %d samples a second, ratio %.2f\n", name[i], speed[i], speed[i] / whole
             if (speed[i] * 10 < best) bad = 1
         }
         exit bad
