@@ -9,6 +9,7 @@ pub mod OneShow
 pub mod Opens
 pub mod Rest
 pub mod Says
+pub mod SaysThrough
 pub mod Shows
 pub mod Taking
 pub mod TurnLaws

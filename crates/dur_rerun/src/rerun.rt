@@ -1,0 +1,3 @@
+//! The command `rerun`: what it writes out through a journal.
+
+mod saying;
