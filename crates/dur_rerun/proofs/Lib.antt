@@ -1,5 +1,7 @@
 pub mod Admitting
+pub mod Batches
 pub mod Commands
+pub mod Cuts
 pub mod Handing
 pub mod LateRuns
 pub mod Lists

@@ -1,3 +1,4 @@
-//! The command `rerun`: what it writes out through a journal.
+//! The command `rerun`: what it stores, and what it writes out through a journal.
 
 mod saying;
+mod storing;
