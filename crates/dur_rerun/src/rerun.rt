@@ -1,3 +1,8 @@
-//! The command `rerun`: what it writes out through a journal.
+//! The command `rerun`: what a record calls for, written out through a journal.
 
+mod nacks;
+mod replays;
+mod reply;
 mod saying;
+mod session;
+mod sheet;
