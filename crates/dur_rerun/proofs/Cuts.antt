@@ -18,6 +18,7 @@ use Rattle.dur_view.proofs.ViewFollows.{follows-view}
 use Rattle.dur_view.proofs.ViewLaw.{law_view}
 use Rattle.dur_view.proofs.SameEffects.{first_law}
 use Rattle.dur_view.proofs.PersistentHistories.{history-persistent}
+use Rattle.dur_journal.specs.Histories.{view_of}
 use Rattle.dur_rerun.specs.Rerun.Kept.{AllFrom, IsCut, IsCutOf, CutBefore, IsBehind}
 
 -- ---- entries one after the other
@@ -102,6 +103,20 @@ cut_view kept whole now is (inr c) late last =
       last = omega (arith, ap moment c.whole_is, last);
     } in
     ap (λ (h : History). view h now) c.kept_is ∙ sym (law_view c.before c.m c.es now continues) ∙ ap (λ (h : History). view h now) (sym c.whole_is)
+
+same_end : (h k : History) (es : List Entry) → moment h ≤ moment k → moment (h +> es) ≤ moment (k +> es)
+same_end h k [] le = le
+same_end h k (e ∷ es) le = same_end (h ▸ e) (k ▸ e) es (omega arith)
+
+-- it ends no earlier
+cut_late : (kept whole : History) → IsCutOf kept whole → moment whole ≤ moment kept
+cut_late kept whole (inl same) = omega (arith, ap moment same)
+cut_late kept whole (inr c) = omega (arith, same_end c.before (Start (view c.before c.m)) c.es c.late, ap moment c.whole_is, ap moment c.kept_is)
+
+-- and is opened again with the view of the history
+pub cut_opened : (kept whole : History) → IsHistory whole → IsCutOf kept whole → view_of kept ≡ view whole (moment kept)
+unfolding view_of
+cut_opened kept whole is cut = cut_view kept whole (moment kept) is cut (omega arith) (cut_late kept whole cut)
 
 -- each writer has the same next number
 pub cut_next : (kept whole : History) (w : Guid) → IsHistory whole → IsCutOf kept whole → stands (start whole) w ≡ true → next kept w ≡ next whole w

@@ -8,7 +8,7 @@ mod input;
 pub mod late;
 pub mod list;
 mod output;
-mod rerun;
+pub mod rerun;
 pub mod show;
 mod status;
 mod text;
