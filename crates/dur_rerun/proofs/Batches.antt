@@ -301,14 +301,14 @@ behind_small k r es is behind =
 pub behind_next : (plan : Plan) (k : Kept) (r : Run) → IsGoodRun r → IsKeeping plan k r → IsBehind (kept_next k r).history r.history (r.taken + length (next_batch k.appended r)) r.moment
 behind_next plan k r good keeping = ⊎_elim
     (λ small.
-      subst (λ (x : Kept). IsBehind x.history r.history (r.taken + length (next_batch k.appended r)) r.moment) (sym (next_small k r small))
-      (subst (λ (l : List Entry). IsBehind (k.history +> l) r.history (r.taken + length (next_batch k.appended r)) r.moment) (batch_small k.appended r small)
-        (behind_small k r (next_batch k.appended r) (batch_small k.appended r small) keeping.behind)))
+    subst (λ (x : Kept). IsBehind x.history r.history (r.taken + length (next_batch k.appended r)) r.moment) (sym (next_small k r small))
+    (subst (λ (l : List Entry). IsBehind (k.history +> l) r.history (r.taken + length (next_batch k.appended r)) r.moment) (batch_small k.appended r small)
+    (behind_small k r (next_batch k.appended r) (batch_small k.appended r small) keeping.behind)))
     (λ large.
-      let all : r.taken + length (next_batch k.appended r) ≡ length (stored r.history) =
-      ap (λ (l : List Entry). r.taken + length l) (batch_large k.appended r large) ∙ omega (arith, length-drop r.taken (stored r.history), good.taken) in
-      subst (λ n. IsBehind (kept_next k r).history r.history n r.moment) (sym all)
-      (subst (λ (x : Kept). IsBehind x.history r.history (length (stored r.history)) r.moment) (sym (next_large k r large)) (behind_view r.history r.moment good.history good.early)))
+    let all : r.taken + length (next_batch k.appended r) ≡ length (stored r.history) =
+    ap (λ (l : List Entry). r.taken + length l) (batch_large k.appended r large) ∙ omega (arith, length-drop r.taken (stored r.history), good.taken) in
+    subst (λ n. IsBehind (kept_next k r).history r.history n r.moment) (sym all)
+    (subst (λ (x : Kept). IsBehind x.history r.history (length (stored r.history)) r.moment) (sym (next_large k r large)) (behind_view r.history r.moment good.history good.early)))
     (cases_lt k.appended (2 ^ 20))
 
 pub later_next : (k : Kept) (r : Run) → k.generation ≤ (kept_next k r).generation
@@ -419,8 +419,8 @@ left_more tells begun log first mid hub w u v plan k s told stands keeping leave
     let good : IsGoodRun (run_after begun l) = s.passes.settled.stands.at.at.good in
     joins w u v (IsStoring plan k.generation r w.now) up.left
     (weaker u v _ _ (leaves plan up.now begun l up.stands s.passes.settled here)
-      (λ c one. storing_later plan k.generation s.n r up.now.generation w.now u.now c up.out up.rises
-        (subst (λ (x : Run). IsStoring plan up.now.generation x u.now c) s.passes.leads (storing_one plan up.now (run_after begun l) u.now c good here one))))
+    (λ c one. storing_later plan k.generation s.n r up.now.generation w.now u.now c up.out up.rises
+    (subst (λ (x : Run). IsStoring plan up.now.generation x u.now c) s.passes.leads (storing_one plan up.now (run_after begun l) u.now c good here one))))
 
 pub stored_more : {D : Type 0} (tells : Type 0) (begun : Run) (log : List Event) (first mid new : Journal D) (hub hub' : Hub) (w u v : World) → StoringSoFar tells begun log first mid hub w u
     → PassesBatch mid hub new hub' → (tells → LeavesBatch mid hub u v) → (tells → KeepsBatch mid hub u new v) → (tells → IsSound u) → (tells → IsSound v) → StoringSoFar tells begun log first new hub' w v
@@ -442,18 +442,18 @@ stored_more tells begun log first mid new hub hub' w u v s passes leaves keeps s
         silent = ap acks_in both ∙ p.silent ∙ s.passes.silent;
       };
       kept = λ told plan k stands keeping.
-        let up = s.kept told plan k stands keeping in
-        let here : IsKeeping plan up.now x = subst (IsKeeping plan up.now) (sym s.passes.leads) up.keeping in
-        let run = leaves told plan up.now begun l up.stands s.passes.settled here in
-        let m_is : length (next_batch up.now.appended x) ≡ m = ap (λ a. length (next_batch a x)) (sym up.stands.appended) in
-        record {
-          left = left_more tells begun log first mid hub w u v plan k s told stands keeping (leaves told);
-          now = kept_next up.now x;
-          stands = keeps told plan up.now begun l up.stands s.passes.settled here;
-          keeping = subst (IsKeeping plan (kept_next up.now x)) (ap (λ n. with_stored n x) m_is ∙ ap (with_stored m) s.passes.leads ∙ later_stored r s.n m) (keeping_next plan up.now x good here);
-          rises = omega (arith, up.rises, later_next up.now x);
-          out = (handed_back plan up.now (kept_next up.now x) mid u v (sound-u told) (sound-v told) up.stands run).out ∙ up.out;
-        };
+          let up = s.kept told plan k stands keeping in
+          let here : IsKeeping plan up.now x = subst (IsKeeping plan up.now) (sym s.passes.leads) up.keeping in
+          let run = leaves told plan up.now begun l up.stands s.passes.settled here in
+          let m_is : length (next_batch up.now.appended x) ≡ m = ap (λ a. length (next_batch a x)) (sym up.stands.appended) in
+          record {
+            left = left_more tells begun log first mid hub w u v plan k s told stands keeping (leaves told);
+            now = kept_next up.now x;
+            stands = keeps told plan up.now begun l up.stands s.passes.settled here;
+            keeping = subst (IsKeeping plan (kept_next up.now x)) (ap (λ n. with_stored n x) m_is ∙ ap (with_stored m) s.passes.leads ∙ later_stored r s.n m) (keeping_next plan up.now x good here);
+            rises = omega (arith, up.rises, later_next up.now x);
+            out = (handed_back plan up.now (kept_next up.now x) mid u v (sound-u told) (sound-v told) up.stands run).out ∙ up.out;
+          };
     }
 
 -- ---- all batches
@@ -551,7 +551,7 @@ fails_so tells begun log first now hub w u plan k why s fails told stands keepin
       now = up.now;
       keeping = up.keeping;
       why = subst (λ (x : Run). StoreFails up.now.appended up.now.generation x why) s.passes.leads
-        (subst (λ a. StoreFails a up.now.generation (run_after begun (log ++ s.passes.more)) why) up.stands.appended
+          (subst (λ a. StoreFails a up.now.generation (run_after begun (log ++ s.passes.more)) why) up.stands.appended
           (subst (λ a. StoreFails now.appended a (run_after begun (log ++ s.passes.more)) why) up.stands.generation at));
     }
 

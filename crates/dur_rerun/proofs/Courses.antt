@@ -15,19 +15,19 @@ use Rattle.dur_journal.specs.Journals.{Stands as StandsFor}
 use Rattle.dur_hub.specs.declared.event.Event.{Event}
 use Rattle.dur_hub.specs.declared.reply.Ack.{Ack}
 use Rattle.dur_hub.specs.Handed.{Covered, acks_in}
-use Rattle.dur_hub.specs.Legal.{run_after}
+use Rattle.dur_hub.specs.Legal.{after as run_by, run_after}
 use Rattle.dur_hub.specs.Runs.{Run}
 use Rattle.dur_rerun.specs.declared.rerun.replays.Replay.{Replay}
 use Rattle.dur_rerun.specs.declared.rerun.service.Service.{Service}
 use Rattle.dur_rerun.specs.Rerun.Courses.{RecordCalls, Course, IsNext, place_at}
 use Rattle.dur_rerun.specs.Rerun.Crashes.{IsCovering, IsHandling, IsKept}
 use Rattle.dur_rerun.specs.Rerun.Replies.{Place}
-use Rattle.dur_rerun.specs.Rerun.Services.{Serves, ServesSome, MayServe, EndsHandling, Handled, LeavesHandling, AnsweredAll, StartsFrom, ended}
-use Rattle.dur_rerun.specs.Rerun.Answer.{IsRead, RunsOver}
+use Rattle.dur_rerun.specs.Rerun.Services.{Serves, ServesSome, MayServe, EndsHandling, Handled, LeavesHandling, IsFullAt, StopsAt, StopsHandling, AnsweredAll, StartsFrom, ended}
+use Rattle.dur_rerun.specs.Rerun.Answer.{IsFull, IsRead, RunsOver, StopsFull}
 use Rattle.dur_rerun.specs.Input.Breaks.{EndsRecords}
 use Rattle.dur_rerun.specs.declared.status.Status.{Status}
 use Rattle.dur_rerun.specs.declared.status.Status.TheVariants.{Done, Usage, OutOfMemory, Input, ReadFault, WriteFault, DiskFault, Plan as BadPlan, NotAJournal, PlanDiffers, Full, Worn}
-use Rattle.dur_rerun.specs.Rerun.Stores.{stored_all, IsSettled, IsKeeping, IsStoring, IsStoredUp, EndsStoring, rig_of}
+use Rattle.dur_rerun.specs.Rerun.Stores.{stored_all, IsSettled, IsKeeping, IsStoring, IsStoredUp, EndsStoring, FailsToStore, rig_of}
 use Rattle.dur_rerun.proofs.Serving.{covered_calls}
 use Rattle.dur_rerun.proofs.Recording.{storing_ends}
 use Rattle.std.specs.Prelude.{IfOk, IfErr, Ok, Err}
@@ -37,12 +37,28 @@ use Rattle.std.specs.declared.result.Result.{Result}
 
 pub course_more : (own : List ℕ) (before mid after : Place) (rs : List Record) (r : Record) (a b : List Ack) (x y : List ℕ) → Course own before rs a x mid → RecordCalls own mid r b y after
     → Course own before (rs ++ r ∷ []) (a ++ b) (x ++ y) after
-course_more own before mid after [] r a b x y c calls =
-    (b, [], y, [], after, subst (λ (p : Place). RecordCalls own p r b y after) c.2 calls, (refl, refl, refl),
-      ap (λ (l : List Ack). l ++ b) c.0 ∙ sym (append-nil b), ap (λ (l : List ℕ). l ++ y) c.1 ∙ sym (append-nil y))
-course_more own before mid after (s ∷ rs) r a b x y c calls =
-    (c.0, c.1 ++ b, c.2, c.3 ++ y, c.4, c.5, course_more own c.4 mid after rs r c.1 b c.3 y c.6 calls,
-      ap (λ (l : List Ack). l ++ b) c.7 ∙ append_assoc c.0 c.1 b, ap (λ (l : List ℕ). l ++ y) c.8 ∙ append_assoc c.2 c.3 y)
+course_more own before mid after [] r a b x y c calls = (
+  b,
+  [],
+  y,
+  [],
+  after,
+  subst (λ (p : Place). RecordCalls own p r b y after) c.2 calls,
+  (refl, refl, refl),
+  ap (λ (l : List Ack). l ++ b) c.0 ∙ sym (append-nil b),
+  ap (λ (l : List ℕ). l ++ y) c.1 ∙ sym (append-nil y),
+)
+course_more own before mid after (s ∷ rs) r a b x y c calls = (
+  c.0,
+  c.1 ++ b,
+  c.2,
+  c.3 ++ y,
+  c.4,
+  c.5,
+  course_more own c.4 mid after rs r c.1 b c.3 y c.6 calls,
+  ap (λ (l : List Ack). l ++ b) c.7 ∙ append_assoc c.0 c.1 b,
+  ap (λ (l : List ℕ). l ++ y) c.8 ∙ append_assoc c.2 c.3 y,
+)
 
 -- ---- what a crash leaves
 
@@ -125,7 +141,7 @@ kept_storing own plan epoch later begun log service position rs acks text first 
         within = s.most;
         cut = s.cut;
         covered = subst (Covered run.history s.n) (sym said ∙ sym (append-nil acks))
-          (covered_calls begun log service.hub s.n serves.good serves.settled.stands (omega (arith, serves.settled.durable, s.least)) s.most);
+            (covered_calls begun log service.hub s.n serves.good serves.settled.stands (omega (arith, serves.settled.durable, s.least)) s.most);
       };
       out = (0, s.out ∙ out ∙ ap (λ (l : List ℕ). first.written ++ l) (sym (append-nil text)));
     }
@@ -157,8 +173,8 @@ left_next tells own begun rs r first mid service w u v plan k s told stands keep
     joins w u v (IsKept own plan k.generation begun (rs ++ r ∷ []) w.now)
     (weaker w u _ _ so.left (λ c is. kept_more own plan k.generation begun rs r w.now c is))
     (weaker u v _ _ (leaves plan so.answered.now begun s.log so.answered.stands s.serves so.answered.keeping)
-      (λ c h. kept_handling own plan k.generation so.answered.now.generation begun s.log service.replays.begun.items rs r s.acks s.text w.now u.now c s.course s.said so.answered.rises so.answered.out
-        (subst (λ (l : List ℕ). IsHandling l plan so.answered.now.generation begun s.log service.replays.begun.items r u.now c) s.own_is h)))
+    (λ c h. kept_handling own plan k.generation so.answered.now.generation begun s.log service.replays.begun.items rs r s.acks s.text w.now u.now c s.course s.said so.answered.rises so.answered.out
+    (subst (λ (l : List ℕ). IsHandling l plan so.answered.now.generation begun s.log service.replays.begun.items r u.now c) s.own_is h)))
 
 pub answered_next : {D : Type 0} (tells : Type 0) (own : List ℕ) (begun : Run) (rs : List Record) (r : Record) (first mid last : Journal D) (old new : Service) (w u v : World)
     → (s : AnsweredAll tells own begun rs first mid old w u) → Handled tells begun s.log r old mid new last u v → (tells → LeavesHandling old mid r u v)
@@ -170,21 +186,21 @@ answered_next tells own begun rs r first mid last old new w u v s h leaves = rec
   acks = s.acks ++ h.acks;
   text = s.text ++ h.text;
   course = course_more own (place_at begun [] []) (place_at begun s.log old.replays.begun.items) (place_at begun (s.log ++ h.more) new.replays.begun.items) rs r s.acks h.acks s.text h.text s.course
-    (subst (λ (l : List ℕ). RecordCalls l (place_at begun s.log old.replays.begun.items) r h.acks h.text (place_at begun (s.log ++ h.more) new.replays.begun.items)) s.own_is h.calls);
+      (subst (λ (l : List ℕ). RecordCalls l (place_at begun s.log old.replays.begun.items) r h.acks h.text (place_at begun (s.log ++ h.more) new.replays.begun.items)) s.own_is h.calls);
   said = ap (λ (l : List Ack). l ++ h.acks) s.said ∙ sym h.said;
   kept = λ told plan k stands keeping.
-    let so = s.kept told plan k stands keeping in
-    let one = h.kept told plan so.answered.now so.answered.stands so.answered.keeping in
-    record {
-      answered = record {
-        now = one.now;
-        stands = one.stands;
-        keeping = one.keeping;
-        rises = omega (arith, so.answered.rises, one.rises);
-        out = one.out ∙ ap (λ (l : List ℕ). l ++ h.text) so.answered.out ∙ append_assoc w.now.written s.text h.text;
+      let so = s.kept told plan k stands keeping in
+      let one = h.kept told plan so.answered.now so.answered.stands so.answered.keeping in
+      record {
+        answered = record {
+          now = one.now;
+          stands = one.stands;
+          keeping = one.keeping;
+          rises = omega (arith, so.answered.rises, one.rises);
+          out = one.out ∙ ap (λ (l : List ℕ). l ++ h.text) so.answered.out ∙ append_assoc w.now.written s.text h.text;
+        };
+        left = left_next tells own begun rs r first mid old w u v plan k s told stands keeping (leaves told);
       };
-      left = left_next tells own begun rs r first mid old w u v plan k s told stands keeping (leaves told);
-    };
 }
 
 -- the service may go on
@@ -220,6 +236,65 @@ not_read (BadPlan line kind) ends read = read
 not_read (NotAJournal file place) ends read = read
 not_read (PlanDiffers name) ends read = read
 
+full_by : (own : List ℕ) (plan : Plan) (begun : Run) (rs : List Record) (s : Status) → IsFull own plan begun rs s → StopsFull own plan begun rs s
+full_by own plan begun rs Done full = tt
+full_by own plan begun rs Usage full = tt
+full_by own plan begun rs OutOfMemory full = tt
+full_by own plan begun rs (Input place why) full = tt
+full_by own plan begun rs ReadFault full = tt
+full_by own plan begun rs WriteFault full = tt
+full_by own plan begun rs DiskFault full = tt
+full_by own plan begun rs (BadPlan line kind) full = tt
+full_by own plan begun rs (NotAJournal file place) full = tt
+full_by own plan begun rs (PlanDiffers name) full = tt
+full_by own plan begun rs (Full size) full = full
+full_by own plan begun rs Worn full = full
+
+full_reading : (own : List ℕ) (plan : Plan) (begun : Run) (rs : List Record) (s : Status) → EndsRecords s → StopsFull own plan begun rs s
+full_reading own plan begun rs (Input place why) ends = tt
+full_reading own plan begun rs OutOfMemory ends = tt
+full_reading own plan begun rs ReadFault ends = tt
+full_reading own plan begun rs Done ends = absurd ends
+full_reading own plan begun rs Usage ends = absurd ends
+full_reading own plan begun rs WriteFault ends = absurd ends
+full_reading own plan begun rs DiskFault ends = absurd ends
+full_reading own plan begun rs (BadPlan line kind) ends = absurd ends
+full_reading own plan begun rs (NotAJournal file place) ends = absurd ends
+full_reading own plan begun rs (PlanDiffers name) ends = absurd ends
+full_reading own plan begun rs (Full size) ends = absurd ends
+full_reading own plan begun rs Worn ends = absurd ends
+
+-- while a record was handled
+full_at : (own : List ℕ) (plan : Plan) (begun : Run) (rs : List Record) (r : Record) (acks : List Ack) (text : List ℕ) (place : Place) (s : Status) → Course own (place_at begun [] []) rs acks text place → IsFullAt own plan place r s
+    → IsFull own plan begun (rs ++ r ∷ []) s
+full_at own plan begun rs r acks text place s course f = record {
+  done = rs;
+  rest = r ∷ [];
+  are = refl;
+  acks = acks;
+  text = text;
+  place = place;
+  course = course;
+  run = run_by place.run f.received.call;
+  next = inr (record { received = f.received; run_is = refl; answer = inl (refl, refl) });
+  fails = f.fails;
+}
+
+full_handling : (own : List ℕ) (plan : Plan) (begun : Run) (rs : List Record) (r : Record) (acks : List Ack) (text : List ℕ) (place : Place) (s : Status) → Course own (place_at begun [] []) rs acks text place → StopsAt own plan place r s
+    → StopsFull own plan begun (rs ++ r ∷ []) s
+full_handling own plan begun rs r acks text place (Full size) course f = full_at own plan begun rs r acks text place (Full size) course f
+full_handling own plan begun rs r acks text place Worn course f = full_at own plan begun rs r acks text place Worn course f
+full_handling own plan begun rs r acks text place Done course f = tt
+full_handling own plan begun rs r acks text place Usage course f = tt
+full_handling own plan begun rs r acks text place OutOfMemory course f = tt
+full_handling own plan begun rs r acks text place (Input at why) course f = tt
+full_handling own plan begun rs r acks text place ReadFault course f = tt
+full_handling own plan begun rs r acks text place WriteFault course f = tt
+full_handling own plan begun rs r acks text place DiskFault course f = tt
+full_handling own plan begun rs r acks text place (BadPlan line kind) course f = tt
+full_handling own plan begun rs r acks text place (NotAJournal file at) course f = tt
+full_handling own plan begun rs r acks text place (PlanDiffers name) course f = tt
+
 -- no record came
 pub ends_reading : {D : Type 0} (tells : Type 0) (own : List ℕ) (begun : Run) (rs : List Record) (first now : Journal D) (service : Service) (w u : World) (status : Status) (plan : Plan) (k : Kept)
     → (s : AnsweredAll tells own begun rs first now service w u) → EndsRecords status → tells → StandsFor plan k first w → IsKeeping plan k begun → RunsOver own plan k.generation begun rs status w u
@@ -229,13 +304,18 @@ ends_reading tells own begun rs first now service w u status plan k s ends told 
       left = so.left;
       said = λ read. record { acks = s.acks; text = s.text; place = place_at begun s.log service.replays.begun.items; course = s.course; out = so.answered.out };
       stored = λ done. absurd (subst EndsRecords done ends);
+      full = full_reading own plan begun rs status ends;
     }
 
 -- a record was not handled
 pub ends_handling : {D : Type 0} (tells : Type 0) (own : List ℕ) (begun : Run) (rs : List Record) (r : Record) (first mid : Journal D) (service : Service) (w u v : World) (status : Status) (plan : Plan) (k : Kept)
-    → AnsweredAll tells own begun rs first mid service w u → EndsHandling status → (tells → LeavesHandling service mid r u v) → tells → StandsFor plan k first w → IsKeeping plan k begun
-    → RunsOver own plan k.generation begun (rs ++ r ∷ []) status w v
-ends_handling tells own begun rs r first mid service w u v status plan k s ends leaves told stands keeping = record {
+    → AnsweredAll tells own begun rs first mid service w u → EndsHandling status → (tells → LeavesHandling service mid r u v) → (tells → StopsHandling service mid r u status) → tells → StandsFor plan k first w
+    → IsKeeping plan k begun → RunsOver own plan k.generation begun (rs ++ r ∷ []) status w v
+ends_handling tells own begun rs r first mid service w u v status plan k s ends leaves stops told stands keeping = record {
+  full =
+      let a = (s.kept told plan k stands keeping).answered in
+      full_handling own plan begun rs r s.acks s.text (place_at begun s.log service.replays.begun.items) status s.course
+      (subst (λ (l : List ℕ). StopsAt l plan (place_at begun s.log service.replays.begun.items) r status) s.own_is (stops told plan a.now begun s.log a.stands s.serves a.keeping));
   left = left_next tells own begun rs r first mid service w u v plan k s told stands keeping (leaves told);
   said = λ read. absurd (not_read status ends read);
   stored = λ done. absurd (subst EndsHandling done ends);
@@ -251,13 +331,29 @@ left_last tells own begun rs first mid service w u v plan k s told stands keepin
     let a = so.answered in
     joins w u v (IsKept own plan k.generation begun rs w.now) so.left
     (weaker u v _ _ (run plan a.now begun s.log a.stands s.serves.settled a.keeping)
-      (λ c is. kept_storing own plan k.generation a.now.generation begun s.log service mid.position rs s.acks s.text w.now u.now c s.serves s.course s.said a.rises a.out is))
+    (λ c is. kept_storing own plan k.generation a.now.generation begun s.log service mid.position rs s.acks s.text w.now u.now c s.serves s.course s.said a.rises a.out is))
 
 pub ends_storing : {D : Type 0} (tells : Type 0) (own : List ℕ) (begun : Run) (rs : List Record) (first mid : Journal D) (service : Service) (w u v : World) (status : Status) (plan : Plan) (k : Kept)
-    → AnsweredAll tells own begun rs first mid service w u → EndsHandling status → tells → StandsFor plan k first w → IsKeeping plan k begun
+    → AnsweredAll tells own begun rs first mid service w u → EndsHandling status
+    → ((q : Plan) (x : Kept) (b : Run) (l : List Event) → StandsFor q x mid u → IsSettled b l service.hub mid.position → IsKeeping q x (run_after b l) → FailsToStore q (run_after b l) status)
+    → tells → StandsFor plan k first w → IsKeeping plan k begun
     → ((q : Plan) (x : Kept) (b : Run) (l : List Event) → StandsFor q x mid u → IsSettled b l service.hub mid.position → IsKeeping q x (run_after b l) → Leaves u v (IsStoring q x.generation (run_after b l) u.now))
     → RunsOver own plan k.generation begun rs status w v
-ends_storing tells own begun rs first mid service w u v status plan k s ends told stands keeping run = record {
+ends_storing tells own begun rs first mid service w u v status plan k s ends fails told stands keeping run = record {
+  full =
+      let a = (s.kept told plan k stands keeping).answered in
+      full_by own plan begun rs status (record {
+        done = rs;
+        rest = [];
+        are = sym (append-nil rs);
+        acks = s.acks;
+        text = s.text;
+        place = place_at begun s.log service.replays.begun.items;
+        course = s.course;
+        run = run_after begun s.log;
+        next = (refl, refl, refl);
+        fails = fails plan a.now begun s.log a.stands s.serves.settled a.keeping;
+      });
   left = left_last tells own begun rs first mid service w u v plan k s told stands keeping run;
   said = λ read. absurd (not_read status ends read);
   stored = λ done. absurd (subst EndsHandling done ends);
@@ -288,16 +384,19 @@ ends_done tells own begun rs first mid last service w u v plan k s told stands k
         whole = subst (IsCutOf up.now.history) (durable_all q.history) (behind_of up.now.history q.history (length (stored q.history)) q.moment up.keeping.behind);
         generation = omega (arith, a.rises, up.rises);
       };
+      full = tt;
     }
 
 -- by what storing answered
 pub ends_last : {D : Type 0} (tells : Type 0) (own : List ℕ) (begun : Run) (rs : List Record) (first mid : Journal D) (service : Service) (w u : World) (world : D → World) (result : Result (Journal D) (Status × D)) (plan : Plan) (k : Kept)
-    → AnsweredAll tells own begun rs first mid service w u → IfErr result (λ e. EndsStoring e.0) → tells → StandsFor plan k first w → IsKeeping plan k begun
+    → AnsweredAll tells own begun rs first mid service w u → IfErr result (λ e. EndsStoring e.0)
+    → ((q : Plan) (x : Kept) (b : Run) (l : List Event) → StandsFor q x mid u → IsSettled b l service.hub mid.position → IsKeeping q x (run_after b l) → IfErr result (λ e. FailsToStore q (run_after b l) e.0))
+    → tells → StandsFor plan k first w → IsKeeping plan k begun
     → ((q : Plan) (x : Kept) (b : Run) (l : List Event) → StandsFor q x mid u → IsSettled b l service.hub mid.position → IsKeeping q x (run_after b l) → Leaves u (world (rig_of result)) (IsStoring q x.generation (run_after b l) u.now))
     → ((q : Plan) (x : Kept) (b : Run) (l : List Event) → StandsFor q x mid u → IsSettled b l service.hub mid.position → IsKeeping q x (run_after b l)
-      → IfOk result (λ last. IsStoredUp q x (run_after b l) (stored_all (run_after b l)) last u (world last.disk)))
+    → IfOk result (λ last. IsStoredUp q x (run_after b l) (stored_all (run_after b l)) last u (world last.disk)))
     → RunsOver own plan k.generation begun rs (ended result) w (world (rig_of result))
-ends_last tells own begun rs first mid service w u world (Ok last) plan k s ends told stands keeping run kept =
+ends_last tells own begun rs first mid service w u world (Ok last) plan k s ends fails told stands keeping run kept =
     ends_done tells own begun rs first mid last service w u (world last.disk) plan k s told stands keeping run kept
-ends_last tells own begun rs first mid service w u world (Err e) plan k s ends told stands keeping run kept =
-    ends_storing tells own begun rs first mid service w u (world e.1) e.0 plan k s (storing_ends e.0 ends) told stands keeping run
+ends_last tells own begun rs first mid service w u world (Err e) plan k s ends fails told stands keeping run kept =
+    ends_storing tells own begun rs first mid service w u (world e.1) e.0 plan k s (storing_ends e.0 ends) fails told stands keeping run

@@ -217,27 +217,31 @@ pub behind_more : (kept h : History) (n now k : ℕ) → IsBehind kept h n now �
 behind_more kept h n now k behind =
     let es = take k (drop n (stored h)) in
     let more = durable_more h n k in
-    record { either = ⊎_elim
-      (λ same. inl (ap (λ (g : History). g +> es) same ∙ sym more))
-      (λ c. inr (subst (λ (g : History). CutBefore (kept +> es) g (drop (n + k) (stored h)) now) (sym more)
-        (subst (λ (l : List Entry). CutBefore (kept +> es) (durable_part h n +> es) l now) (drop-drop k n (stored h)) (cut_before_more kept (durable_part h n) (drop n (stored h)) k now c))))
-      behind.either; }
+    record {
+      either = ⊎_elim
+          (λ same. inl (ap (λ (g : History). g +> es) same ∙ sym more))
+          (λ c. inr (subst (λ (g : History). CutBefore (kept +> es) g (drop (n + k) (stored h)) now) (sym more)
+          (subst (λ (l : List Entry). CutBefore (kept +> es) (durable_part h n +> es) l now) (drop-drop k n (stored h)) (cut_before_more kept (durable_part h n) (drop n (stored h)) k now c))))
+          behind.either;
+    }
 
 -- the view of all that is stored stands for it
 pub behind_view : (h : History) (now : ℕ) → IsHistory h → moment h ≤ now → IsBehind (Start (view (persistent h) now)) h (length (stored h)) now
-behind_view h now is late = record { either = inr (
-  record {
-    before = persistent h;
-    m = now;
-    es = [];
-    whole_is = durable_all h;
-    kept_is = refl;
-    late = omega (arith, persistent_early h is, late);
-    from = tt;
-  },
-  subst (AllFrom now) (sym (drop_all (length (stored h)) (stored h) (omega arith))) tt,
-  omega arith,
-) }
+behind_view h now is late = record {
+  either = inr (
+    record {
+      before = persistent h;
+      m = now;
+      es = [];
+      whole_is = durable_all h;
+      kept_is = refl;
+      late = omega (arith, persistent_early h is, late);
+      from = tt;
+    },
+    subst (AllFrom now) (sym (drop_all (length (stored h)) (stored h) (omega arith))) tt,
+    omega arith,
+  );
+}
 
 -- entries more of this moment or later ones
 pub behind_grown : (kept h : History) (n now later : ℕ) (es : List Entry) → n ≤ length (stored h) → AllFrom now es → now ≤ later → IsBehind kept h n now → IsBehind kept (h +> es) n later
@@ -247,7 +251,9 @@ behind_grown kept h n now later es le from goes behind =
     ap (λ (g : View). Start g +> take n (stored (h +> es))) (start_persistent (h +> es) ∙ ap persistent_view (start_extend h es) ∙ sym (start_persistent h))
     ∙ ap (λ (l : List Entry). Start (start (persistent h)) +> l) (ap (take n) more.1 ∙ take-append-le n (stored h) more.0 le) in
     let rest : drop n (stored (h +> es)) ≡ drop n (stored h) ++ more.0 = ap (drop n) more.1 ∙ drop-append-le n (stored h) more.0 le in
-    record { either = ⊎_elim (λ is. inl (is ∙ sym same))
-      (λ c. inr (subst (λ (g : History). CutBefore kept g (drop n (stored (h +> es))) later) (sym same)
-        (subst (λ (l : List Entry). CutBefore kept (durable_part h n) l later) (sym rest)
-          (c.0, from_append c.0.m (drop n (stored h)) more.0 c.1 (from_earlier c.0.m now more.0 c.2 more.2), omega (arith, c.2, goes))))) behind.either; }
+    record {
+      either = ⊎_elim (λ is. inl (is ∙ sym same))
+          (λ c. inr (subst (λ (g : History). CutBefore kept g (drop n (stored (h +> es))) later) (sym same)
+          (subst (λ (l : List Entry). CutBefore kept (durable_part h n) l later) (sym rest)
+          (c.0, from_append c.0.m (drop n (stored h)) more.0 c.1 (from_earlier c.0.m now more.0 c.2 more.2), omega (arith, c.2, goes))))) behind.either;
+    }

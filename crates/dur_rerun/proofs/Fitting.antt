@@ -103,14 +103,14 @@ has_part plan v base whole listed =
       persistent = All-from_recursion (λ (t : Topic). is_persistent t ≡ true) v.topics (each_kind v.topics base.persistent);
       declared = listed;
       topics = All-from_recursion (λ (t : Topic). is_persistent t ≡ true → is_some (place_of t.name v.topics) ≡ true) plan.topics
-        (each_yes is_persistent (λ (t : Topic). is_some (place_of t.name v.topics)) plan.topics
+          (each_yes is_persistent (λ (t : Topic). is_some (place_of t.name v.topics)) plan.topics
           (each_of (λ (t : Topic). t) is_persistent (λ (t : Topic). not (is_some (place_of t.name v.topics)) ≡ false) plan.topics
-            (subst (AllByRecursion (λ (t : Topic). not (is_some (place_of t.name v.topics)) ≡ false)) (sym (map_same (filter is_persistent plan.topics)))
-              (none_pass (λ (t : Topic). not (is_some (place_of t.name v.topics))) (filter is_persistent plan.topics) no_topics))));
+          (subst (AllByRecursion (λ (t : Topic). not (is_some (place_of t.name v.topics)) ≡ false)) (sym (map_same (filter is_persistent plan.topics)))
+          (none_pass (λ (t : Topic). not (is_some (place_of t.name v.topics))) (filter is_persistent plan.topics) no_topics))));
       writers = All-from_recursion (λ (w : WriterLine). passes_at is_persistent plan.topics w.topic ≡ true → stands v w.guid ≡ true) plan.writers
-        (each_yes (λ (w : WriterLine). passes_at is_persistent plan.topics w.topic) (λ (w : WriterLine). stands v w.guid) plan.writers
+          (each_yes (λ (w : WriterLine). passes_at is_persistent plan.topics w.topic) (λ (w : WriterLine). stands v w.guid) plan.writers
           (each_of (writer_line_among plan) (λ (w : WriterLine). passes_at is_persistent plan.topics w.topic) (λ (w : WriterLine). not (stands v w.guid) ≡ false) plan.writers
-            (none_pass (λ (w : WriterLine). not (stands v w.guid)) part.writers lines)));
+          (none_pass (λ (w : WriterLine). not (stands v w.guid)) part.writers lines)));
     }
   where
     map_none : {X Y : Type 0} (f : X → Y) (xs : List X) → map f xs ≡ [] → xs ≡ []

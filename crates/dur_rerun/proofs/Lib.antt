@@ -1,6 +1,7 @@
 pub mod Admitting
 pub mod Batches
 pub mod Commands
+pub mod Completes
 pub mod Courses
 pub mod Cuts
 pub mod Fitting

@@ -67,7 +67,7 @@ starts_so plan view epoch s journal w good kept b none found = record {
 
 -- no hub was made
 pub none_run : (own : List ℕ) (plan : Plan) (epoch : ℕ) (begun : Run) (w : World) → RunsOver own plan epoch begun [] OutOfMemory w w
-none_run own plan epoch begun w = record { left = still w (IsKept own plan epoch begun [] w.now); said = λ read. absurd read; stored = λ done. absurd (cc) }
+none_run own plan epoch begun w = record { left = still w (IsKept own plan epoch begun [] w.now); said = λ read. absurd read; stored = λ done. absurd (cc); full = tt }
 
 -- ---- the opening and then the records
 
@@ -104,25 +104,26 @@ runs_on plan view epoch rs Reads s tells w u v reads ends opened out sound first
       ends = ends;
       opened = opened;
       left = λ told.
-        joins w u v (RerunLeaves (own_prefix epoch plan) plan epoch begun rs w)
-        (weaker w u _ _ (first told) (λ c left. inl (open_out plan w c (sound told) left, left)))
-        (weaker u v _ _ (here told).left (λ c k. inr (kept_from (own_prefix epoch plan) plan epoch begun rs w.now u.now c (out told) k)));
+          joins w u v (RerunLeaves (own_prefix epoch plan) plan epoch begun rs w)
+          (weaker w u _ _ (first told) (λ c left. inl (open_out plan w c (sound told) left, left)))
+          (weaker u v _ _ (here told).left (λ c k. inr (kept_from (own_prefix epoch plan) plan epoch begun rs w.now u.now c (out told) k)));
       said = λ told read.
-        let a = (here told).said read in
-        record { acks = a.acks; text = a.text; place = a.place; course = a.course; out = a.out ∙ ap (λ (l : List ℕ). l ++ a.text) (out told) };
+          let a = (here told).said read in
+          record { acks = a.acks; text = a.text; place = a.place; course = a.course; out = a.out ∙ ap (λ (l : List ℕ). l ++ a.text) (out told) };
       stored = λ told done.
-        let a = (here told).stored done in
-        record {
-          acks = a.acks;
-          text = a.text;
-          place = a.place;
-          course = a.course;
-          out = a.out ∙ ap (λ (l : List ℕ). l ++ a.text) (out told);
-          k = a.k;
-          keeps = a.keeps;
-          whole = a.whole;
-          generation = a.generation;
-        };
+          let a = (here told).stored done in
+          record {
+            acks = a.acks;
+            text = a.text;
+            place = a.place;
+            course = a.course;
+            out = a.out ∙ ap (λ (l : List ℕ). l ++ a.text) (out told);
+            k = a.k;
+            keeps = a.keeps;
+            whole = a.whole;
+            generation = a.generation;
+          };
+      full = λ told. (here told).full;
     }
 
 -- ---- behind the plan
@@ -144,6 +145,7 @@ runs_behind known mid seen p o s tells w v consumed r = record {
   left = r.left;
   said = r.said;
   stored = r.stored;
+  full = r.full;
 }
 
 pub plan_behind : (known mid : Option (List ℕ)) (seen : List ℕ) (p : Opened) (o : Opens seen p) (s : Status) (tells : Type 0) (w v : World) → Consumes known mid seen

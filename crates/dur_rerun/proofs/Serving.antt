@@ -45,8 +45,10 @@ use Rattle.dur_rerun.specs.Rerun.Crashes.{IsHandling}
 use Rattle.dur_rerun.specs.Rerun.Saying.{IsFront, Says}
 use Rattle.dur_rerun.specs.Rerun.Steps.{AreSnapshots, IsSnapshot, Leads, Wherever}
 use Rattle.dur_rerun.specs.declared.rerun.reply.Cut.{Cut}
-use Rattle.dur_rerun.specs.Rerun.Stores.{stored_all, IsSettled, IsSettledSome, StoresAll, IsKeeping, IsStoring, IsStoredUp, MayStore}
-use Rattle.dur_rerun.specs.Rerun.Services.{Serves, ServesSome, MayServe, HasReceived, TakenIn, Answered, CutShort, Handled}
+use Rattle.dur_rerun.specs.Rerun.Stores.{stored_all, IsSettled, IsSettledSome, StoresAll, IsKeeping, IsStoring, IsStoredUp, FailsToStore, MayStore}
+use Rattle.dur_rerun.specs.Rerun.Services.{Serves, ServesSome, MayServe, HasReceived, TakenIn, Answered, CutShort, Handled, EndsAnswering, IsFullAt, StopsAt}
+use Rattle.dur_rerun.specs.declared.status.Status.{Status}
+use Rattle.dur_rerun.specs.declared.status.Status.TheVariants as status
 use Rattle.dur_rerun.specs.Rerun.Replies.{Place, Replies, BeginsReplies, nacks}
 use Rattle.dur_rerun.specs.declared.rerun.service.Service.{Service}
 use Rattle.dur_rerun.specs.declared.rerun.nacks.Nack.{Nack}
@@ -189,7 +191,7 @@ covered_received : (begun : Run) (log : List Event) (e : Event) (n : ℕ) → Is
 covered_received begun log e n good has least most =
     subst (Covered (run_after begun (log ++ e ∷ [])).history n) (acks_one log e)
     (covered_longer (run_after begun (log ++ e ∷ [])).history (run_after begun (log ++ e ∷ [])).durable n (acks_in (log ++ e ∷ [])) has.good.history (omega (arith, has.durable, least)) most
-      (law_durable begun (log ++ e ∷ []) good has.legal))
+    (law_durable begun (log ++ e ∷ []) good has.legal))
 
 pub storing_handles : (own : List ℕ) (plan : Plan) (epoch : ℕ) (begun : Run) (log : List Event) (replays : List Replay) (r : Record) (e : Event) (old c : Image)
     → IsGoodRun begun → HasReceived begun log e → Brings own r e → IsStoring plan epoch (run_after begun (log ++ e ∷ [])) old c → IsHandling own plan epoch begun log replays r old c
@@ -212,7 +214,7 @@ storing_handles own plan epoch begun log replays r e old c good has brings s =
         within = s.most;
         cut = s.cut;
         covered = subst (Covered q.history s.n) (sym (append-nil (acks_in log)))
-          (covered_front q.history s.n (acks_in log) (acks_by e) (covered_received begun log e s.n good has s.least s.most));
+            (covered_front q.history s.n (acks_in log) (acks_by e) (covered_received begun log e s.n good has s.least s.most));
       };
       out = (0, s.out ∙ sym (append-nil old.written));
     }
@@ -263,8 +265,8 @@ taken_in tells begun log r old new first now hub reply asked w u a serves stores
       silent = s.silent;
       same = same;
       kept = λ told plan k stands keeping.
-        let up = kept told plan k begun (log ++ a.call ∷ []) stands settled (keeping_received plan k begun log old.hub hub first.position old.own r a.call serves.settled a.adds a.brings keeping) in
-        record { now = up.now; stands = up.stands; keeping = up.keeping; rises = up.rises; out = up.out };
+          let up = kept told plan k begun (log ++ a.call ∷ []) stands settled (keeping_received plan k begun log old.hub hub first.position old.own r a.call serves.settled a.adds a.brings keeping) in
+          record { now = up.now; stands = up.stands; keeping = up.keeping; rises = up.rises; out = up.out };
     }
 
 pub taken_left : {D : Type 0} (begun : Run) (log : List Event) (r : Record) (old : Service) (first : Journal D) (hub : Hub) (reply : Received) (asked : List Nack) (plan : Plan) (k : Kept) (w u : World)
@@ -289,8 +291,8 @@ at_answered P tells begun log r old mid first between acks asked w u t holds =
     ap (λ (q : Run). record { run = q; replays = mid.replays.begun.items }) run ∙ ap (λ (s : Service). record { run = stored_all (after (run_after begun log) e); replays = s.replays.begun.items }) t.same in
     subst (λ (p : Place). P old.own (acks_by e) (nacks t.received.brings.heard.facts) p) place
     (subst (λ (l : List Nack). P old.own (acks_by e) l (place_at begun ((log ++ e ∷ []) ++ t.more) mid.replays.begun.items)) t.asked_are
-      (subst (λ (l : List Ack). P old.own l asked (place_at begun ((log ++ e ∷ []) ++ t.more) mid.replays.begun.items)) t.acks_are
-        (subst (λ (l : List ℕ). P l acks asked (place_at begun ((log ++ e ∷ []) ++ t.more) mid.replays.begun.items)) (ap (λ (s : Service). s.own) t.same) holds)))
+    (subst (λ (l : List Ack). P old.own l asked (place_at begun ((log ++ e ∷ []) ++ t.more) mid.replays.begun.items)) t.acks_are
+    (subst (λ (l : List ℕ). P l acks asked (place_at begun ((log ++ e ∷ []) ++ t.more) mid.replays.begun.items)) (ap (λ (s : Service). s.own) t.same) holds)))
 
 legal_behind : (r : Run) (log more : List Event) → Legal r (log ++ more) → Legal (run_after r log) more
 legal_behind r [] more legal = legal
@@ -313,26 +315,26 @@ handled tells begun log r old mid new first between last acks asked w u v t a =
         received = t.received;
         acks_are = t.acks_are;
         replies = subst (λ (l : List Ack). Replies old.own r.port l (nacks t.received.brings.heard.facts) (answered_at (place_at begun log old.replays.begun.items) e) a.text (place_at begun (log ++ (e ∷ (t.more ++ a.more))) new.replays.begun.items)) (sym t.acks_are)
-          (subst (λ (l : List Event). Replies old.own r.port (acks_by e) (nacks t.received.brings.heard.facts) (answered_at (place_at begun log old.replays.begun.items) e) a.text (place_at begun l new.replays.begun.items)) (sym both)
+            (subst (λ (l : List Event). Replies old.own r.port (acks_by e) (nacks t.received.brings.heard.facts) (answered_at (place_at begun log old.replays.begun.items) e) a.text (place_at begun l new.replays.begun.items)) (sym both)
             (at_answered (λ own l n p. Replies own r.port l n p a.text (place_at begun (two ++ a.more) new.replays.begun.items)) tells begun log r old mid first between acks asked w u t a.replies));
       };
       said = ap acks_in both ∙ a.silent ∙ t.silent ∙ acks_one log e ∙ ap (λ (l : List Ack). acks_in log ++ l) (sym t.acks_are);
       own_is = a.own_is ∙ ap (λ (s : Service). s.own) t.same;
       kept = λ told plan k stands keeping.
-        let st = t.kept told plan k stands keeping in
-        let q = run_after begun two in
-        let legal = legal_behind begun two a.more a.serves.settled.stands.legal in
-        let is = run_more begun two a.more in
-        record {
-          now = st.now;
-          stands = a.stands told plan st.now st.stands;
-          keeping = subst (λ (l : List Event). IsKeeping plan st.now (run_after begun l)) (sym both)
-            (subst (IsKeeping plan st.now) (sym is)
-              (keeping_later plan st.now q (run_after q a.more) t.serves.settled.stands.at.at.good (later_calls q a.more legal) (sym (ap (λ (x : Run). x.taken) is) ∙ a.counts)
+          let st = t.kept told plan k stands keeping in
+          let q = run_after begun two in
+          let legal = legal_behind begun two a.more a.serves.settled.stands.legal in
+          let is = run_more begun two a.more in
+          record {
+            now = st.now;
+            stands = a.stands told plan st.now st.stands;
+            keeping = subst (λ (l : List Event). IsKeeping plan st.now (run_after begun l)) (sym both)
+                (subst (IsKeeping plan st.now) (sym is)
+                (keeping_later plan st.now q (run_after q a.more) t.serves.settled.stands.at.at.good (later_calls q a.more legal) (sym (ap (λ (x : Run). x.taken) is) ∙ a.counts)
                 (subst (IsKeeping plan st.now) (sym t.leads) st.keeping)));
-          rises = st.rises;
-          out = a.out told ∙ ap (λ (l : List ℕ). l ++ a.text) st.out;
-        };
+            rises = st.rises;
+            out = a.out told ∙ ap (λ (l : List ℕ). l ++ a.text) st.out;
+          };
     }
 
 -- a crash while its text goes out
@@ -343,7 +345,7 @@ pub answer_left : {D : Type 0} (tells : Type 0) (begun : Run) (log : List Event)
 answer_left tells begun log r old mid first between acks asked text plan k w u v t good told stands keeping made left =
     let st = t.kept told plan k stands keeping in
     weaker u v _ _ left (λ c front.
-      front_handles old.own plan k.generation st.now begun log old.replays.begun.items r t.received.call text w.now u.now c good t.has t.received refl made st.out (stands_keeps plan st.now between u st.stands) st.rises st.keeping front)
+    front_handles old.own plan k.generation st.now begun log old.replays.begun.items r t.received.call text w.now u.now c good t.has t.received refl made st.out (stands_keeps plan st.now between u st.stands) st.rises st.keeping front)
 
 -- what was made of its answer
 pub made_all : {D : Type 0} (tells : Type 0) (begun : Run) (log : List Event) (r : Record) (old mid new : Service) (first between last : Journal D) (acks : List Ack) (asked : List Nack) (w u v : World)
@@ -351,8 +353,13 @@ pub made_all : {D : Type 0} (tells : Type 0) (begun : Run) (log : List Event) (r
     → IsMade old.own (place_at begun log old.replays.begun.items) r t.received (acks_by t.received.call) a.text
 made_all tells begun log r old mid new first between last acks asked w u v t a =
     let two = (log ++ t.received.call ∷ []) ++ t.more in
-    inr (refl, inr (place_at begun (two ++ a.more) new.replays.begun.items,
-      at_answered (λ own l n p. Replies own r.port l n p a.text (place_at begun (two ++ a.more) new.replays.begun.items)) tells begun log r old mid first between acks asked w u t a.replies))
+    inr (
+      refl,
+      inr (
+        place_at begun (two ++ a.more) new.replays.begun.items,
+        at_answered (λ own l n p. Replies own r.port l n p a.text (place_at begun (two ++ a.more) new.replays.begun.items)) tells begun log r old mid first between acks asked w u t a.replies,
+      ),
+    )
 
 pub made_some : {D : Type 0} (tells : Type 0) (begun : Run) (log : List Event) (r : Record) (old mid : Service) (first between : Journal D) (acks : List Ack) (asked : List Nack) (text : List ℕ) (w u : World)
     → (t : TakenIn tells begun log r old first mid between acks asked w u) → BeginsReplies mid.own r.port acks asked (place_at begun ((log ++ t.received.call ∷ []) ++ t.more) mid.replays.begun.items) text
@@ -451,3 +458,47 @@ cut_so tells begun log port acks asked old first now w v text result begins says
   begins = begins begun log serves.settled.stands (plan_calls begun log ∙ serves.plan);
   left = λ told. (says told).run;
 }
+
+-- ---- why nothing more could be stored
+
+stops_by : (own : List ℕ) (plan : Plan) (before : Place) (r : Record) (s : Status) → IsFullAt own plan before r s → StopsAt own plan before r s
+stops_by own plan before r status.Done full = tt
+stops_by own plan before r status.Usage full = tt
+stops_by own plan before r status.OutOfMemory full = tt
+stops_by own plan before r (status.Input place why) full = tt
+stops_by own plan before r status.ReadFault full = tt
+stops_by own plan before r status.WriteFault full = tt
+stops_by own plan before r status.DiskFault full = tt
+stops_by own plan before r (status.Plan line kind) full = tt
+stops_by own plan before r (status.NotAJournal file place) full = tt
+stops_by own plan before r (status.PlanDiffers name) full = tt
+stops_by own plan before r (status.Full size) full = full
+stops_by own plan before r status.Worn full = full
+
+-- a record that was received
+pub stops_storing : {D : Type 0} (begun : Run) (log : List Event) (r : Record) (old : Service) (first : Journal D) (hub : Hub) (reply : Received) (asked : List Nack) (plan : Plan) (k : Kept) (s : Status)
+    → Admitted old.own r reply asked old.hub hub → Serves begun log old first.position → IsKeeping plan k (run_after begun log)
+    → ((b : Run) (l : List Event) → IsSettled b l hub first.position → IsKeeping plan k (run_after b l) → FailsToStore plan (run_after b l) s)
+    → StopsAt old.own plan (place_at begun log old.replays.begun.items) r s
+stops_storing begun log r old first hub reply asked plan k s a serves keeping fails =
+    let settled = settled_received begun log old.hub hub first.position old.own r a.call serves.settled a.adds a.brings in
+    let here = fails begun (log ++ a.call ∷ []) settled (keeping_received plan k begun log old.hub hub first.position old.own r a.call serves.settled a.adds a.brings keeping) in
+    stops_by old.own plan (place_at begun log old.replays.begun.items) r s (record {
+      received = record { call = a.call; brings = a.brings; legal = legal_received begun log old.hub hub a.call serves.settled.stands a.adds };
+      fails = subst (λ (q : Run). FailsToStore plan q s) (run_more begun log (a.call ∷ [])) here;
+    })
+
+-- and one that was not answered in full
+pub stops_answering : (own : List ℕ) (plan : Plan) (before : Place) (r : Record) (s : Status) → EndsAnswering s → StopsAt own plan before r s
+stops_answering own plan before r status.WriteFault ends = tt
+stops_answering own plan before r status.OutOfMemory ends = tt
+stops_answering own plan before r status.Done ends = absurd ends
+stops_answering own plan before r status.Usage ends = absurd ends
+stops_answering own plan before r (status.Input place why) ends = absurd ends
+stops_answering own plan before r status.ReadFault ends = absurd ends
+stops_answering own plan before r status.DiskFault ends = absurd ends
+stops_answering own plan before r (status.Plan line kind) ends = absurd ends
+stops_answering own plan before r (status.NotAJournal file place) ends = absurd ends
+stops_answering own plan before r (status.PlanDiffers name) ends = absurd ends
+stops_answering own plan before r (status.Full size) ends = absurd ends
+stops_answering own plan before r status.Worn ends = absurd ends

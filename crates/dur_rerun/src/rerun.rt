@@ -1,6 +1,6 @@
 //! The command `rerun`: what it stores, and what it writes out through a journal.
 
-ghost use Rattle.std.specs.Prelude.{◌≡◌, ◌≤◌, ◌^◌, ◌++◌, ◌⊎◌, ℕ, List, None, IfOk, IfSome};
+ghost use Rattle.std.specs.Prelude.{◌≡◌, ◌≤◌, ◌^◌, ◌++◌, ◌⊎◌, ℕ, List, None, Some, IfOk, IfSome};
 ghost use Rattle.std.specs.Io.KnownBytes.{IsAtEnd};
 ghost use Rattle.dur_outside.specs.Causes.{Rose};
 ghost use Rattle.dur_outside.specs.World.{Leaves};
@@ -8,7 +8,8 @@ ghost use Rattle.dur_qos.specs.Good.{GoodPlan};
 ghost use Rattle.dur_journal.specs.Opening.{IsKeptView};
 ghost use Rattle.dur_hub.specs.Runs.{opening};
 ghost use Rattle.dur_rerun.specs.Input.Prefix.{own_prefix};
-ghost use Rattle.dur_rerun.specs.Rerun.Answer.{EndsCourse, OpensNot, ReadsAs, Reruns, RunsOn, ServesOn, open_status};
+ghost use Rattle.dur_rerun.specs.Rerun.Answer.{EndsCourse, OpensNot, ReadsAs, Reruns, RunsOn, IsComplete, ServesOn, open_status};
+ghost use Rattle.dur_rerun.specs.Input.Whole.{IsWholeInput};
 ghost use Rattle.dur_rerun.specs.Rerun.Services.{Begins, IsFoundFor};
 
 mod course;
@@ -22,6 +23,8 @@ mod service;
 mod session;
 mod sheet;
 mod storing;
+#[cfg(test)]
+mod tests;
 
 use crate::input::plan::open_plan;
 use crate::input::prefix::own_prefix;
@@ -124,12 +127,18 @@ fn serve<S: Source, R: Rig>(
 }
 
 /// Opens the journal over a plan, and then handles the records behind it.
-fn run_plan<S: Source, R: Rig>(alloc: Global, plan: Plan, feed: Feed, input: &mut S, rig: R) -> Ran<R>
+fn run_plan<S: Source, R: Rig>(
+    alloc: Global,
+    plan: Plan,
+    feed: Feed,
+    input: &mut S,
+    rig: R,
+) -> Ran<R>
     requires good { GoodPlan plan }
     requires fresh { (feed.before ≤ 2 ^ 40) × (feed.taken ≡ 0) × (feed.fault ≡ None) }
     ensures runs { OpensNot plan result.status R.tells (R.world rig) (R.world result.rig)
         ⊎ RunsOn plan (λ rs. IfSome (S.left input.old) (λ tail. ReadsAs feed.before (feed.left ++ tail) rs result.status)) result.status
-            R.tells (R.world rig) (R.world result.rig) }
+        R.tells (R.world rig) (R.world result.rig) }
     ensures end { result.status ≡ Status.Done → IsAtEnd (S.left input.new) }
     ensures read { result.status ≡ Status.ReadFault → Rose (S.faults input.old) (S.faults input.new) }
     ensures write { result.status ≡ Status.WriteFault → Rose (R.sink_faults rig) (R.sink_faults result.rig) }
@@ -161,6 +170,9 @@ pub fn rerun<S: Source, R: Rig>(alloc: Global, input: &mut S, rig: R) -> Ran<R>
     ensures read { result.status ≡ Status.ReadFault → Rose (S.faults input.old) (S.faults input.new) }
     ensures write { result.status ≡ Status.WriteFault → Rose (R.sink_faults rig) (R.sink_faults result.rig) }
     ensures disk { result.status ≡ Status.DiskFault → Rose (R.disk_faults rig) (R.disk_faults result.rig) }
+    ensures complete { (bytes : List ℕ) → S.left input.old ≡ Some bytes → IsWholeInput bytes → (Rose (S.faults input.old) (S.faults input.new) → ⊥)
+        → (Rose (R.sink_faults rig) (R.sink_faults result.rig) → ⊥) → (Rose (R.disk_faults rig) (R.disk_faults result.rig) → ⊥)
+        → IsComplete result.status }
 {
     match open_plan(alloc, input) {
         Ok(opened) => run_plan(alloc, opened.plan, opened.feed, input, rig),

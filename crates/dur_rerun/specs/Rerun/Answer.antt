@@ -25,10 +25,11 @@ use Rattle.dur_rerun.specs.declared.status.Status.{Status}
 use Rattle.dur_rerun.specs.declared.status.Status.TheVariants.{Done, Usage, OutOfMemory, Input, ReadFault, WriteFault, DiskFault, Plan, NotAJournal, PlanDiffers, Full, Worn}
 use Rattle.dur_rerun.specs.Input.Breaks.{place_at as place_of, EndsPlan, StopsPlan}
 use Rattle.dur_rerun.specs.Input.Prefix.{own_prefix}
-use Rattle.dur_rerun.specs.Rerun.Courses.{Course, place_at}
+use Rattle.dur_rerun.specs.Rerun.Courses.{Course, IsNext, place_at}
 use Rattle.dur_rerun.specs.Rerun.Crashes.{IsKept}
 use Rattle.dur_rerun.specs.Rerun.Kept.{IsCutOf}
 use Rattle.dur_rerun.specs.Rerun.Replies.{Place}
+use Rattle.dur_rerun.specs.Rerun.Stores.{FailsToStore}
 
 -- ---- the records
 
@@ -86,6 +87,26 @@ pub record IsStoredFor (own : List ℕ) (plan : PlanOf) (epoch : ℕ) (begun : R
   pub whole : IsCutOf k.history (persistent place.run.history)
   pub generation : epoch ≤ k.generation
 
+-- Some of the records were answered, and the next one may have been received; and of what was to be stored then some batches were, but
+-- not the next one.
+pub record IsFull (own : List ℕ) (plan : PlanOf) (begun : Run) (records : List Record) (s : Status) : Type 0 where
+  pub done : List Record
+  pub rest : List Record
+  pub are : records ≡ done ++ rest
+  pub acks : List Ack
+  pub text : List ℕ
+  pub place : Place
+  pub course : Course own (place_at begun [] []) done acks text place
+  pub run : Run
+  pub next : IsNext own place rest run [] []
+  pub fails : FailsToStore plan run s
+
+-- Why nothing more could be stored, with such a status.
+abbrev pub StopsFull : List ℕ → PlanOf → Run → List Record → Status → Type 0
+StopsFull own plan begun records (Full size) = IsFull own plan begun records (Full size)
+StopsFull own plan begun records Worn = IsFull own plan begun records Worn
+StopsFull own plan begun records s = Unit {0}
+
 -- What a run over records does to the outside, with the disk in keeping.
 pub record RunsOver (own : List ℕ) (plan : PlanOf) (epoch : ℕ) (begun : Run) (records : List Record) (s : Status) (w v : World) : Type 0 where
   -- each crash state since its start is one of the start, or kept as the crash promise says
@@ -94,6 +115,8 @@ pub record RunsOver (own : List ℕ) (plan : PlanOf) (epoch : ℕ) (begun : Run)
   pub said : IsRead s → IsSaidFor own begun records w.now v.now
   -- and with the status 0 everything is stored
   pub stored : s ≡ Done → IsStoredFor own plan epoch begun records w.now v.now
+  -- a view that is too long, or no generation left
+  pub full : StopsFull own plan begun records s
 
 -- ---- the whole command
 
@@ -159,6 +182,8 @@ pub record RunsOn (plan : PlanOf) (Reads : List Record → Type 0) (s : Status) 
   pub said : tells → IsRead s → IsSaidFor (own_prefix epoch plan) (opening plan view 0) records w.now v.now
   -- and with the status 0 what is kept
   pub stored : tells → s ≡ Done → IsStoredFor (own_prefix epoch plan) plan epoch (opening plan view 0) records w.now v.now
+  -- and why nothing more could be stored
+  pub full : tells → StopsFull (own_prefix epoch plan) plan (opening plan view 0) records s
 
 -- A plan was read, and then the journal was opened over it, or not.
 pub record RunsPlan (known : Option (List ℕ)) (s : Status) (tells : Type 0) (w v : World) : Type 0 where
@@ -169,3 +194,13 @@ pub record RunsPlan (known : Option (List ℕ)) (s : Status) (tells : Type 0) (w
 -- What `rerun` does.
 abbrev pub Reruns : {R : Type 0} → Option (List ℕ) → Status → Type 0 → R → R → World → World → Type 0
 Reruns known s tells old new w v = ReadsNoPlan known s old new ⊎ RunsPlan known s tells w v
+
+-- With this status a run ends where the input is the text of a plan and a capture, and no call failed.
+abbrev pub IsComplete : Status → Type 0
+IsComplete Done = Unit {0}
+IsComplete OutOfMemory = Unit {0}
+IsComplete (NotAJournal file place) = Unit {0}
+IsComplete (PlanDiffers name) = Unit {0}
+IsComplete (Full size) = Unit {0}
+IsComplete Worn = Unit {0}
+IsComplete s = ⊥

@@ -11,7 +11,7 @@ use Rattle.dur_hub.specs.declared.event.Event.{Event}
 use Rattle.dur_hub.specs.declared.reply.Ack.{Ack}
 use Rattle.dur_hub.specs.GoodRuns.{IsGoodRun}
 use Rattle.dur_hub.specs.Handed.{acks_by, acks_in}
-use Rattle.dur_hub.specs.Legal.{Legal, run_after}
+use Rattle.dur_hub.specs.Legal.{Legal, after as run_by, run_after}
 use Rattle.dur_hub.specs.Hubs.{Stands as StandsAs}
 use Rattle.dur_hub.specs.Openings.{MayOpen}
 use Rattle.dur_hub.specs.Runs.{Run, opening}
@@ -26,7 +26,7 @@ use Rattle.dur_rerun.specs.Rerun.Courses.{Receives, RecordCalls, Course, place_a
 use Rattle.dur_rerun.specs.Rerun.Crashes.{IsHandling, IsKept}
 use Rattle.dur_rerun.specs.Rerun.Replies.{Place, Replies, BeginsReplies, nacks}
 use Rattle.dur_rerun.specs.Rerun.Saying.{IsFront}
-use Rattle.dur_rerun.specs.Rerun.Stores.{stored_all, IsSettled, IsKeeping, EndsStoring}
+use Rattle.dur_rerun.specs.Rerun.Stores.{stored_all, IsSettled, IsKeeping, EndsStoring, FailsToStore}
 
 -- The service's hub stands for these calls over a good run of its plan, and all that was handed out is durable.
 pub record Serves (begun : Run) (log : List Event) (service : Service) (position : ℕ) : Type 0 where
@@ -52,6 +52,16 @@ pub record IsAnswered {D : Type 0} (plan : Plan) (k : Kept) (later : Run) (text 
   pub keeping : IsKeeping plan now later
   pub rises : k.generation ≤ now.generation
   pub out : v.now.written ≡ w.now.written ++ text
+
+-- what holds of each list of calls for which the service's hub stands
+abbrev pub WhereServing : Service → ℕ → (Run → List Event → Type 0) → Type 0
+WhereServing service position P = (begun : Run) (log : List Event) → Serves begun log service position → P begun log
+
+-- what holds of all that the journal keeps, beside that
+abbrev pub WhereServed : {D : Type 0} → Service → Journal D → World → (Plan → Kept → Run → List Event → Type 0) → Type 0
+WhereServed service journal w P =
+    (plan : Plan) (k : Kept) (begun : Run) (log : List Event) → StandsFor plan k journal w → Serves begun log service journal.position
+    → IsKeeping plan k (run_after begun log) → P plan k begun log
 
 -- A journal and the service beside it: what the one keeps stands for what the other handed out.
 pub record MayServe {D : Type 0} (service : Service) (journal : Journal D) (w : World) : Type 0 where
@@ -119,8 +129,7 @@ pub record Handled {D : Type 0} (tells : Type 0) (begun : Run) (log : List Event
 -- What a crash leaves of the handling of one record.
 abbrev pub LeavesHandling : {D : Type 0} → Service → Journal D → Record → World → World → Type 0
 LeavesHandling service journal r u v =
-    (plan : Plan) (k : Kept) (begun : Run) (log : List Event) → StandsFor plan k journal u → Serves begun log service journal.position → IsKeeping plan k (run_after begun log)
-    → Leaves u v (IsHandling service.own plan k.generation begun log service.replays.begun.items r u.now)
+    WhereServed service journal u (λ plan k begun log. Leaves u v (IsHandling service.own plan k.generation begun log service.replays.begun.items r u.now))
 
 -- What is kept after some records, and what a crash since the first may have left.
 pub record IsKeptSoFar {D : Type 0} (own : List ℕ) (plan : Plan) (k : Kept) (begun : Run) (records : List Record) (later : Run) (text : List ℕ) (journal : Journal D) (w u : World) : Type 0 where
@@ -151,6 +160,22 @@ pub record StartsFrom {D : Type 0} (service : Service) (journal : Journal D) (w 
 abbrev pub taken_rig : {R : Type 0} → Result (Journal R × Brought) (Status × R) → R
 taken_rig (Ok r) = r.0.disk
 taken_rig (Err e) = e.1
+
+-- Why the handling of a record ended early, where nothing more could be stored: the record was received, and some batches of what it
+-- brought were stored, but not the next one.
+pub record IsFullAt (own : List ℕ) (plan : Plan) (before : Place) (r : Record) (s : Status) : Type 0 where
+  pub received : Receives own before r
+  pub fails : FailsToStore plan (run_by before.run received.call) s
+
+abbrev pub StopsAt : List ℕ → Plan → Place → Record → Status → Type 0
+StopsAt own plan before r (status.Full size) = IsFullAt own plan before r (status.Full size)
+StopsAt own plan before r status.Worn = IsFullAt own plan before r status.Worn
+StopsAt own plan before r s = Unit {0}
+
+-- why the handling of a record ended early
+abbrev pub StopsHandling : {D : Type 0} → Service → Journal D → Record → World → Status → Type 0
+StopsHandling service journal r u s =
+    WhereServed service journal u (λ plan k begun log. StopsAt service.own plan (place_at begun log service.replays.begun.items) r s)
 
 -- what became of the records
 abbrev pub ended : {R : Type 0} → Result (Journal R) (Status × R) → Status

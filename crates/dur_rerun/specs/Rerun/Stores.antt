@@ -87,6 +87,16 @@ pub record IsKeeping (plan : Plan) (k : Kept) (run : Run) : Type 0 where
   pub behind : IsBehind k.history run.history run.taken run.moment
   pub whole : IsWhole plan (start (persistent run.history))
 
+-- what holds of each list of calls for which the hub stands beside such a journal
+abbrev pub WhereSettled : Hub → ℕ → (Run → List Event → Type 0) → Type 0
+WhereSettled hub position P = (begun : Run) (log : List Event) → IsSettled begun log hub position → P begun log
+
+-- what holds of all that the journal keeps, beside that
+abbrev pub WhereKeeping : {D : Type 0} → Journal D → Hub → World → (Plan → Kept → Run → Type 0) → Type 0
+WhereKeeping journal hub w P =
+    (plan : Plan) (k : Kept) (begun : Run) (log : List Event) → StandsFor plan k journal w → IsSettled begun log hub journal.position
+    → IsKeeping plan k (run_after begun log) → P plan k (run_after begun log)
+
 -- What a crash leaves while what waits is stored: all that was durable before, and a front of what waits.
 pub record IsStoring (plan : Plan) (generation : ℕ) (run : Run) (old c : Image) : Type 0 where
   pub k : Kept

@@ -1,20 +1,13 @@
 //! What handles the records of a run, one after the other.
 
-ghost use Rattle.std.specs.Prelude.{◌≡◌, ◌≤◌, ℕ, List, [], ◌∷◌, ◌++◌, IfOk, IfErr};
+ghost use Rattle.std.specs.Prelude.{◌≡◌, ◌≤◌, ℕ, IfOk, IfErr};
 ghost use Rattle.dur_outside.specs.Causes.{Rose};
-ghost use Rattle.dur_outside.specs.World.{Leaves};
-ghost use Rattle.dur_qos.specs.declared.plan.Plan.{Plan as PlanOf};
-ghost use Rattle.dur_journal.specs.Kept.{Kept};
-ghost use Rattle.dur_journal.specs.Journals.{IsReady, Stands};
+ghost use Rattle.dur_journal.specs.Journals.{IsReady};
 ghost use Rattle.dur_qos.specs.Good.{GoodPlan};
-ghost use Rattle.dur_hub.specs.declared.event.Event.{Event};
-ghost use Rattle.dur_hub.specs.Legal.{run_after};
-ghost use Rattle.dur_hub.specs.Runs.{Run};
 ghost use Rattle.dur_rerun.specs.Rerun.Courses.{place_at};
-ghost use Rattle.dur_rerun.specs.Rerun.Crashes.{IsHandling};
-ghost use Rattle.dur_rerun.specs.Rerun.Services.{Answered, CutShort, EndsAnswering, EndsHandling, Handled, LeavesHandling, MayServe, Serves, ServesSome, TakenIn, taken_rig};
+ghost use Rattle.dur_rerun.specs.Rerun.Services.{Answered, CutShort, EndsAnswering, EndsHandling, Handled, LeavesHandling, MayServe, ServesSome, StopsHandling, TakenIn, WhereServing, taken_rig};
 ghost use Rattle.dur_rerun.specs.Rerun.Sending.{CutBy};
-ghost use Rattle.dur_rerun.specs.Rerun.Stores.{EndsStoring, IsKeeping, rig_of};
+ghost use Rattle.dur_rerun.specs.Rerun.Stores.{EndsStoring, rig_of};
 
 use crate::Status;
 use crate::admit::{Brought, admit};
@@ -49,14 +42,12 @@ fn take_in<R: Rig>(
 ) -> Result<(Journal<R>, Brought), (Status, R)>
     requires ready { R.tells → MayServe service.old journal (R.world journal.disk) }
     requires serves { ServesSome service.old journal.position }
-    ensures taken { IfOk result (λ r. (begun : Run) (log : List Event) → Serves begun log service.old journal.position
-        → TakenIn R.tells begun log datagram.now service.old journal service.new r.0 r.1.reply.acks r.1.nacks.items
-            (R.world journal.disk) (R.world r.0.disk)) }
-    ensures run { R.tells → (plan : PlanOf) (k : Kept) (begun : Run) (log : List Event) → Stands plan k journal (R.world journal.disk)
-        → Serves begun log service.old journal.position → IsKeeping plan k (run_after begun log)
-        → Leaves (R.world journal.disk) (R.world (taken_rig result))
-            (IsHandling service.old.own plan k.generation begun log service.old.replays.begun.items datagram.now (R.world journal.disk).now) }
+    ensures taken { IfOk result (λ r. WhereServing service.old journal.position (λ begun log.
+        TakenIn R.tells begun log datagram.now service.old journal service.new r.0 r.1.reply.acks r.1.nacks.items
+        (R.world journal.disk) (R.world r.0.disk))) }
+    ensures run { R.tells → LeavesHandling service.old journal datagram.now (R.world journal.disk) (R.world (taken_rig result)) }
     ensures ends { IfErr result (λ e. EndsStoring e.0) }
+    ensures full { R.tells → IfErr result (λ e. StopsHandling service.old journal datagram.now (R.world journal.disk) e.0) }
     ensures cause { IfErr result (λ e. e.0 ≡ Status.DiskFault → Rose (R.disk_faults journal.disk) (R.disk_faults e.1)) }
     ensures later { R.disk_faults journal.disk ≤ R.disk_faults (taken_rig result) }
     ensures keeps { R.sink_faults (taken_rig result) ≡ R.sink_faults journal.disk }
@@ -93,12 +84,12 @@ fn answer<R: Rig>(
 ) -> Result<Journal<R>, (Status, R)>
     requires ready { R.tells → IsReady journal (R.world journal.disk) }
     requires good { GoodPlan service.old.plan }
-    ensures answered { IfOk result (λ after. (begun : Run) (log : List Event) → Serves begun log service.old journal.position
-        → Answered R.tells begun log port brought.now.reply.acks brought.now.nacks.items service.old journal service.new after
-            (R.world journal.disk) (R.world after.disk)) }
-    ensures cut { IfErr result (λ e. (begun : Run) (log : List Event) → Serves begun log service.old journal.position
-        → CutShort R.tells service.old.own port brought.now.reply.acks brought.now.nacks.items
-            (place_at begun log service.old.replays.begun.items) (R.world journal.disk) (R.world e.1)) }
+    ensures answered { IfOk result (λ after. WhereServing service.old journal.position (λ begun log.
+        Answered R.tells begun log port brought.now.reply.acks brought.now.nacks.items service.old journal service.new after
+        (R.world journal.disk) (R.world after.disk))) }
+    ensures cut { IfErr result (λ e. WhereServing service.old journal.position (λ begun log.
+        CutShort R.tells service.old.own port brought.now.reply.acks brought.now.nacks.items
+        (place_at begun log service.old.replays.begun.items) (R.world journal.disk) (R.world e.1))) }
     ensures ends { IfErr result (λ e. EndsAnswering e.0) }
     ensures cause { IfErr result (λ e. e.0 ≡ Status.WriteFault → Rose (R.sink_faults journal.disk) (R.sink_faults e.1)) }
     ensures later { R.sink_faults journal.disk ≤ R.sink_faults (rig_of result) }
@@ -134,10 +125,11 @@ pub(crate) fn handle<R: Rig>(
     requires ready { R.tells → MayServe service.old journal (R.world journal.disk) }
     requires serves { ServesSome service.old journal.position }
     requires good { GoodPlan service.old.plan }
-    ensures handled { IfOk result (λ after. (begun : Run) (log : List Event) → Serves begun log service.old journal.position
-        → Handled R.tells begun log datagram.now service.old journal service.new after (R.world journal.disk) (R.world after.disk)) }
+    ensures handled { IfOk result (λ after. WhereServing service.old journal.position (λ begun log.
+        Handled R.tells begun log datagram.now service.old journal service.new after (R.world journal.disk) (R.world after.disk))) }
     ensures run { R.tells → LeavesHandling service.old journal datagram.now (R.world journal.disk) (R.world (rig_of result)) }
     ensures ends { IfErr result (λ e. EndsHandling e.0) }
+    ensures full { R.tells → IfErr result (λ e. StopsHandling service.old journal datagram.now (R.world journal.disk) e.0) }
     ensures disk { IfErr result (λ e. e.0 ≡ Status.DiskFault → Rose (R.disk_faults journal.disk) (R.disk_faults e.1)) }
     ensures write { IfErr result (λ e. e.0 ≡ Status.WriteFault → Rose (R.sink_faults journal.disk) (R.sink_faults e.1)) }
     ensures disks { R.disk_faults journal.disk ≤ R.disk_faults (rig_of result) }

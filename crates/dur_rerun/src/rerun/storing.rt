@@ -1,15 +1,12 @@
 //! Storing what a hub hands out, batch by batch, before any of it is acknowledged.
 
-ghost use Rattle.std.specs.Prelude.{◌≡◌, ◌+◌, ◌<◌, ◌≤◌, ◌^◌, ℕ, List, length, IfOk, IfErr};
+ghost use Rattle.std.specs.Prelude.{◌≡◌, ◌<◌, ◌≤◌, ◌^◌, length, IfOk, IfErr};
 ghost use Rattle.dur_outside.specs.Causes.{Rose};
 ghost use Rattle.dur_outside.specs.World.{Leaves};
-ghost use Rattle.dur_qos.specs.declared.plan.Plan.{Plan};
-ghost use Rattle.dur_journal.specs.Kept.{Kept, IsOneOf};
+ghost use Rattle.dur_journal.specs.Kept.{IsOneOf};
 ghost use Rattle.dur_journal.specs.Journals.{IsReady, Stands};
-ghost use Rattle.dur_hub.specs.declared.event.Event.{Event};
 ghost use Rattle.dur_hub.specs.Legal.{run_after};
-ghost use Rattle.dur_hub.specs.Runs.{Run};
-ghost use Rattle.dur_rerun.specs.Rerun.Stores.{HandsOut, IsKeeping, IsSettled, IsSettledSome, IsStoredUp, IsStoring, EndsStoring, FailsToStore, MayStore, PassesOn, StoreFails, StoresAll, kept_next, next_batch, rig_of, stored_all, stored_rig};
+ghost use Rattle.dur_rerun.specs.Rerun.Stores.{HandsOut, IsSettledSome, IsStoredUp, IsStoring, EndsStoring, FailsToStore, MayStore, PassesOn, StoreFails, StoresAll, WhereKeeping, WhereSettled, kept_next, next_batch, rig_of, stored_all, stored_rig};
 
 use crate::Status;
 use dur_hub::Hub;
@@ -29,16 +26,14 @@ fn append<R: Rig>(
     requires ready { R.tells → IsReady journal (R.world journal.disk) }
     requires settled { IsSettledSome hub.old journal.position }
     requires small { journal.appended < 2 ^ 20 }
-    ensures hands { IfOk result (λ r. (begun : Run) (log : List Event) → IsSettled begun log hub.old journal.position
-        → HandsOut begun log (next_batch journal.appended (run_after begun log)) hub.new r.0 r.1) }
-    ensures run { R.tells → (plan : Plan) (k : Kept) (begun : Run) (log : List Event) → Stands plan k journal (R.world journal.disk)
-        → IsSettled begun log hub.old journal.position → IsKeeping plan k (run_after begun log)
-        → Leaves (R.world journal.disk) (R.world (stored_rig result)) (IsOneOf plan (R.world journal.disk).now k (kept_next k (run_after begun log))) }
-    ensures kept { R.tells → (plan : Plan) (k : Kept) (begun : Run) (log : List Event) → Stands plan k journal (R.world journal.disk)
-        → IsSettled begun log hub.old journal.position → IsKeeping plan k (run_after begun log)
-        → IfOk result (λ r. Stands plan (kept_next k (run_after begun log)) r.0 (R.world r.0.disk)) }
-    ensures fails { IfErr result (λ e. (begun : Run) (log : List Event) → IsSettled begun log hub.old journal.position
-        → StoreFails journal.appended journal.generation (run_after begun log) e.0) }
+    ensures hands { IfOk result (λ r. WhereSettled hub.old journal.position (λ begun log.
+        HandsOut begun log (next_batch journal.appended (run_after begun log)) hub.new r.0 r.1)) }
+    ensures run { R.tells → WhereKeeping journal hub.old (R.world journal.disk) (λ plan k run.
+        Leaves (R.world journal.disk) (R.world (stored_rig result)) (IsOneOf plan (R.world journal.disk).now k (kept_next k run))) }
+    ensures kept { R.tells → WhereKeeping journal hub.old (R.world journal.disk) (λ plan k run.
+        IfOk result (λ r. Stands plan (kept_next k run) r.0 (R.world r.0.disk))) }
+    ensures fails { IfErr result (λ e. WhereSettled hub.old journal.position (λ begun log.
+        StoreFails journal.appended journal.generation (run_after begun log) e.0)) }
     ensures cause { IfErr result (λ e. e.0 ≡ Status.DiskFault → Rose (R.disk_faults journal.disk) (R.disk_faults e.1)) }
     ensures later { R.disk_faults journal.disk ≤ R.disk_faults (stored_rig result) }
     ensures keeps { R.sink_faults (stored_rig result) ≡ R.sink_faults journal.disk }
@@ -60,16 +55,14 @@ fn compact<R: Rig>(
     requires ready { R.tells → IsReady journal (R.world journal.disk) }
     requires settled { IsSettledSome hub.old journal.position }
     requires large { 2 ^ 20 ≤ journal.appended }
-    ensures hands { IfOk result (λ r. (begun : Run) (log : List Event) → IsSettled begun log hub.old journal.position
-        → HandsOut begun log (next_batch journal.appended (run_after begun log)) hub.new r.0 r.1) }
-    ensures run { R.tells → (plan : Plan) (k : Kept) (begun : Run) (log : List Event) → Stands plan k journal (R.world journal.disk)
-        → IsSettled begun log hub.old journal.position → IsKeeping plan k (run_after begun log)
-        → Leaves (R.world journal.disk) (R.world (stored_rig result)) (IsOneOf plan (R.world journal.disk).now k (kept_next k (run_after begun log))) }
-    ensures kept { R.tells → (plan : Plan) (k : Kept) (begun : Run) (log : List Event) → Stands plan k journal (R.world journal.disk)
-        → IsSettled begun log hub.old journal.position → IsKeeping plan k (run_after begun log)
-        → IfOk result (λ r. Stands plan (kept_next k (run_after begun log)) r.0 (R.world r.0.disk)) }
-    ensures fails { IfErr result (λ e. (begun : Run) (log : List Event) → IsSettled begun log hub.old journal.position
-        → StoreFails journal.appended journal.generation (run_after begun log) e.0) }
+    ensures hands { IfOk result (λ r. WhereSettled hub.old journal.position (λ begun log.
+        HandsOut begun log (next_batch journal.appended (run_after begun log)) hub.new r.0 r.1)) }
+    ensures run { R.tells → WhereKeeping journal hub.old (R.world journal.disk) (λ plan k run.
+        Leaves (R.world journal.disk) (R.world (stored_rig result)) (IsOneOf plan (R.world journal.disk).now k (kept_next k run))) }
+    ensures kept { R.tells → WhereKeeping journal hub.old (R.world journal.disk) (λ plan k run.
+        IfOk result (λ r. Stands plan (kept_next k run) r.0 (R.world r.0.disk))) }
+    ensures fails { IfErr result (λ e. WhereSettled hub.old journal.position (λ begun log.
+        StoreFails journal.appended journal.generation (run_after begun log) e.0)) }
     ensures cause { IfErr result (λ e. e.0 ≡ Status.DiskFault → Rose (R.disk_faults journal.disk) (R.disk_faults e.1)) }
     ensures later { R.disk_faults journal.disk ≤ R.disk_faults (stored_rig result) }
     ensures keeps { R.sink_faults (stored_rig result) ≡ R.sink_faults journal.disk }
@@ -97,16 +90,14 @@ fn store_next<R: Rig>(
 ) -> Result<(Journal<R>, Receipt), (Status, R)>
     requires ready { R.tells → IsReady journal (R.world journal.disk) }
     requires settled { IsSettledSome hub.old journal.position }
-    ensures hands { IfOk result (λ r. (begun : Run) (log : List Event) → IsSettled begun log hub.old journal.position
-        → HandsOut begun log (next_batch journal.appended (run_after begun log)) hub.new r.0 r.1) }
-    ensures run { R.tells → (plan : Plan) (k : Kept) (begun : Run) (log : List Event) → Stands plan k journal (R.world journal.disk)
-        → IsSettled begun log hub.old journal.position → IsKeeping plan k (run_after begun log)
-        → Leaves (R.world journal.disk) (R.world (stored_rig result)) (IsOneOf plan (R.world journal.disk).now k (kept_next k (run_after begun log))) }
-    ensures kept { R.tells → (plan : Plan) (k : Kept) (begun : Run) (log : List Event) → Stands plan k journal (R.world journal.disk)
-        → IsSettled begun log hub.old journal.position → IsKeeping plan k (run_after begun log)
-        → IfOk result (λ r. Stands plan (kept_next k (run_after begun log)) r.0 (R.world r.0.disk)) }
-    ensures fails { IfErr result (λ e. (begun : Run) (log : List Event) → IsSettled begun log hub.old journal.position
-        → StoreFails journal.appended journal.generation (run_after begun log) e.0) }
+    ensures hands { IfOk result (λ r. WhereSettled hub.old journal.position (λ begun log.
+        HandsOut begun log (next_batch journal.appended (run_after begun log)) hub.new r.0 r.1)) }
+    ensures run { R.tells → WhereKeeping journal hub.old (R.world journal.disk) (λ plan k run.
+        Leaves (R.world journal.disk) (R.world (stored_rig result)) (IsOneOf plan (R.world journal.disk).now k (kept_next k run))) }
+    ensures kept { R.tells → WhereKeeping journal hub.old (R.world journal.disk) (λ plan k run.
+        IfOk result (λ r. Stands plan (kept_next k run) r.0 (R.world r.0.disk))) }
+    ensures fails { IfErr result (λ e. WhereSettled hub.old journal.position (λ begun log.
+        StoreFails journal.appended journal.generation (run_after begun log) e.0)) }
     ensures cause { IfErr result (λ e. e.0 ≡ Status.DiskFault → Rose (R.disk_faults journal.disk) (R.disk_faults e.1)) }
     ensures later { R.disk_faults journal.disk ≤ R.disk_faults (stored_rig result) }
     ensures keeps { R.sink_faults (stored_rig result) ≡ R.sink_faults journal.disk }
@@ -126,16 +117,14 @@ fn store_batch<R: Rig>(
 ) -> Result<Journal<R>, (Status, R)>
     requires ready { R.tells → IsReady journal (R.world journal.disk) }
     requires settled { IsSettledSome hub.old journal.position }
-    ensures passes { IfOk result (λ after. (begun : Run) (log : List Event) → IsSettled begun log hub.old journal.position
-        → PassesOn begun log (length (next_batch journal.appended (run_after begun log))) hub.new after.position) }
-    ensures run { R.tells → (plan : Plan) (k : Kept) (begun : Run) (log : List Event) → Stands plan k journal (R.world journal.disk)
-        → IsSettled begun log hub.old journal.position → IsKeeping plan k (run_after begun log)
-        → Leaves (R.world journal.disk) (R.world (rig_of result)) (IsOneOf plan (R.world journal.disk).now k (kept_next k (run_after begun log))) }
-    ensures kept { R.tells → (plan : Plan) (k : Kept) (begun : Run) (log : List Event) → Stands plan k journal (R.world journal.disk)
-        → IsSettled begun log hub.old journal.position → IsKeeping plan k (run_after begun log)
-        → IfOk result (λ after. Stands plan (kept_next k (run_after begun log)) after (R.world after.disk)) }
-    ensures fails { IfErr result (λ e. (begun : Run) (log : List Event) → IsSettled begun log hub.old journal.position
-        → StoreFails journal.appended journal.generation (run_after begun log) e.0) }
+    ensures passes { IfOk result (λ after. WhereSettled hub.old journal.position (λ begun log.
+        PassesOn begun log (length (next_batch journal.appended (run_after begun log))) hub.new after.position)) }
+    ensures run { R.tells → WhereKeeping journal hub.old (R.world journal.disk) (λ plan k run.
+        Leaves (R.world journal.disk) (R.world (rig_of result)) (IsOneOf plan (R.world journal.disk).now k (kept_next k run))) }
+    ensures kept { R.tells → WhereKeeping journal hub.old (R.world journal.disk) (λ plan k run.
+        IfOk result (λ after. Stands plan (kept_next k run) after (R.world after.disk))) }
+    ensures fails { IfErr result (λ e. WhereSettled hub.old journal.position (λ begun log.
+        StoreFails journal.appended journal.generation (run_after begun log) e.0)) }
     ensures cause { IfErr result (λ e. e.0 ≡ Status.DiskFault → Rose (R.disk_faults journal.disk) (R.disk_faults e.1)) }
     ensures later { R.disk_faults journal.disk ≤ R.disk_faults (rig_of result) }
     ensures keeps { R.sink_faults (rig_of result) ≡ R.sink_faults journal.disk }
@@ -157,19 +146,16 @@ pub(crate) fn store_all<R: Rig>(
 ) -> Result<Journal<R>, (Status, R)>
     requires ready { R.tells → MayStore journal hub.old (R.world journal.disk) }
     requires settled { IsSettledSome hub.old journal.position }
-    ensures passes { IfOk result (λ after. (begun : Run) (log : List Event) → IsSettled begun log hub.old journal.position
-        → StoresAll begun log hub.new after.position) }
-    ensures run { R.tells → (plan : Plan) (k : Kept) (begun : Run) (log : List Event) → Stands plan k journal (R.world journal.disk)
-        → IsSettled begun log hub.old journal.position → IsKeeping plan k (run_after begun log)
-        → Leaves (R.world journal.disk) (R.world (rig_of result)) (IsStoring plan k.generation (run_after begun log) (R.world journal.disk).now) }
-    ensures kept { R.tells → (plan : Plan) (k : Kept) (begun : Run) (log : List Event) → Stands plan k journal (R.world journal.disk)
-        → IsSettled begun log hub.old journal.position → IsKeeping plan k (run_after begun log)
-        → IfOk result (λ after. IsStoredUp plan k (run_after begun log) (stored_all (run_after begun log)) after
-            (R.world journal.disk) (R.world after.disk)) }
+    ensures passes { IfOk result (λ after. WhereSettled hub.old journal.position (λ begun log.
+        StoresAll begun log hub.new after.position)) }
+    ensures run { R.tells → WhereKeeping journal hub.old (R.world journal.disk) (λ plan k run.
+        Leaves (R.world journal.disk) (R.world (rig_of result)) (IsStoring plan k.generation run (R.world journal.disk).now)) }
+    ensures kept { R.tells → WhereKeeping journal hub.old (R.world journal.disk) (λ plan k run.
+        IfOk result (λ after. IsStoredUp plan k run (stored_all run) after
+        (R.world journal.disk) (R.world after.disk))) }
     ensures ends { IfErr result (λ e. EndsStoring e.0) }
-    ensures fails { R.tells → (plan : Plan) (k : Kept) (begun : Run) (log : List Event) → Stands plan k journal (R.world journal.disk)
-        → IsSettled begun log hub.old journal.position → IsKeeping plan k (run_after begun log)
-        → IfErr result (λ e. FailsToStore plan (run_after begun log) e.0) }
+    ensures fails { R.tells → WhereKeeping journal hub.old (R.world journal.disk) (λ plan k run.
+        IfErr result (λ e. FailsToStore plan run e.0)) }
     ensures cause { IfErr result (λ e. e.0 ≡ Status.DiskFault → Rose (R.disk_faults journal.disk) (R.disk_faults e.1)) }
     ensures later { R.disk_faults journal.disk ≤ R.disk_faults (rig_of result) }
     ensures keeps { R.sink_faults (rig_of result) ≡ R.sink_faults journal.disk }

@@ -14,9 +14,9 @@ returns-in-Err-clause-runs g c = record {
   records = [];
   reads = first_told _ _ c.args.feed.before c.args.feed.left [] [] c.args.feed (Consumes-nil _) (feeds_first c.args.feed c.requires.fresh);
   runs = λ told.
-    let w = g.R.Machine.world c.args.found.journal.disk in
-    subst (λ d. RunsOver (own_prefix c.args.found.epoch c.args.plan) c.args.plan c.args.found.epoch (opening c.args.plan c.args.found.view 0) [] OutOfMemory w (g.R.Machine.world d)) (sym c.close.ensures)
-    (none_run (own_prefix c.args.found.epoch c.args.plan) c.args.plan c.args.found.epoch (opening c.args.plan c.args.found.view 0) w);
+      let w = g.R.Machine.world c.args.found.journal.disk in
+      subst (λ d. RunsOver (own_prefix c.args.found.epoch c.args.plan) c.args.plan c.args.found.epoch (opening c.args.plan c.args.found.view 0) [] OutOfMemory w (g.R.Machine.world d)) (sym c.close.ensures)
+      (none_run (own_prefix c.args.found.epoch c.args.plan) c.args.plan c.args.found.epoch (opening c.args.plan c.args.found.view 0) w);
 }
 
 pub answer_all-requires-clause-ready : goal.answer_all-requires-clause-ready
@@ -30,9 +30,9 @@ returns-in-Ok-answer_all-clause-runs g c =
       records = all.0;
       reads = all.1;
       runs = λ told.
-        let w = g.R.Machine.world c.args.found.journal.disk in
-        subst (λ d. RunsOver (own_prefix c.args.found.epoch c.args.plan) c.args.plan c.args.found.epoch (opening c.args.plan c.args.found.view 0) all.0 Done w (g.R.Machine.world d)) (sym c.close-in-Ok-answer_all.ensures)
-        (serves_so c.args.plan c.args.found.view c.args.found.epoch c.in-Ok.service c.args.found.journal all.0 Done w (g.R.Machine.world c.in-Ok-answer_all.journal.disk) c.requires.good c.requires.kept c.in-Ok.ensures (c.requires.ready told) (all.2 told));
+          let w = g.R.Machine.world c.args.found.journal.disk in
+          subst (λ d. RunsOver (own_prefix c.args.found.epoch c.args.plan) c.args.plan c.args.found.epoch (opening c.args.plan c.args.found.view 0) all.0 Done w (g.R.Machine.world d)) (sym c.close-in-Ok-answer_all.ensures)
+          (serves_so c.args.plan c.args.found.view c.args.found.epoch c.in-Ok.service c.args.found.journal all.0 Done w (g.R.Machine.world c.in-Ok-answer_all.journal.disk) c.requires.good c.requires.kept c.in-Ok.ensures (c.requires.ready told) (all.2 told));
     }
 
 pub returns-clause-runs : goal.returns-clause-runs
@@ -42,6 +42,6 @@ returns-clause-runs g c =
       records = all.0;
       reads = all.1;
       runs = λ told.
-        serves_so c.args.plan c.args.found.view c.args.found.epoch c.in-Ok.service c.args.found.journal all.0 c.in-Err-answer_all.status (g.R.Machine.world c.args.found.journal.disk) (g.R.Machine.world c.in-Err-answer_all.rig)
-        c.requires.good c.requires.kept c.in-Ok.ensures (c.requires.ready told) (all.2 told);
+          serves_so c.args.plan c.args.found.view c.args.found.epoch c.in-Ok.service c.args.found.journal all.0 c.in-Err-answer_all.status (g.R.Machine.world c.args.found.journal.disk) (g.R.Machine.world c.in-Err-answer_all.rig)
+          c.requires.good c.requires.kept c.in-Ok.ensures (c.requires.ready told) (all.2 told);
     }

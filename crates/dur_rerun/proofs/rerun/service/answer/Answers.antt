@@ -15,7 +15,7 @@ returns-in-Ok-clause-answered g c = λ begun log serves.
     let v = g.R.Machine.world c.reply-sent.new.journal.disk in
     subst (λ (l : List Nack). Answered g.R.Machine.tells begun log c.args.port c.args.brought.now.reply.acks l c.args.service.now c.args.journal new c.reply-sent.new.journal w v) seen
     (answered_so g.R.Machine.tells begun log c.args.port c.args.brought.now.reply.acks c.deref.result.now c.args.service.now new c.args.journal c.reply-sent.new.journal
-      w v p.text _ p.all p.says (λ told. (p.says told).all) serves c.in-Ok.ensures.stays.same refl refl)
+    w v p.text _ p.all p.says (λ told. (p.says told).all) serves c.in-Ok.ensures.stays.same refl refl)
 
 pub returns-in-Err-clause-cut : goal.returns-in-Err-clause-cut
 returns-in-Err-clause-cut g c = λ begun log serves.
@@ -26,4 +26,4 @@ returns-in-Err-clause-cut g c = λ begun log serves.
     let v = g.R.Machine.world c.reply-sent.new.journal.disk in
     subst (λ d. CutShort g.R.Machine.tells c.args.service.now.own c.args.port c.args.brought.now.reply.acks c.args.brought.now.nacks.items place w (g.R.Machine.world d)) (sym c.close.ensures)
     (subst (λ (l : List Nack). CutShort g.R.Machine.tells c.args.service.now.own c.args.port c.args.brought.now.reply.acks l place w v) seen
-      (cut_so g.R.Machine.tells begun log c.args.port c.args.brought.now.reply.acks c.deref.result.now c.args.service.now c.args.journal c.reply-sent.new.journal w v p.text _ p.begun p.says serves))
+    (cut_so g.R.Machine.tells begun log c.args.port c.args.brought.now.reply.acks c.deref.result.now c.args.service.now c.args.journal c.reply-sent.new.journal w v p.text _ p.begun p.says serves))

@@ -1,5 +1,5 @@
 use Rattle.std.proofs.Common.{refl}
-use Rattle.dur_rerun.proofs.Serving.{may_store, may_received, some_received, taken_in, taken_left}
+use Rattle.dur_rerun.proofs.Serving.{may_store, may_received, some_received, taken_in, taken_left, stops_storing}
 use Rattle.dur_rerun.proofs.rerun.service.take_in.Goals as goal
 
 pub store_all-requires-clause-ready : goal.store_all-requires-clause-ready
@@ -30,3 +30,8 @@ returns-in-Err-store_all-clause-run g c = λ told plan k begun log stands serves
     taken_left begun log c.args.datagram.now c.args.service.now c.args.journal c.admit.new.hub c.in-Ok.brought.reply c.in-Ok.brought.nacks.items plan k
     (g.R.Machine.world c.args.journal.disk) (g.R.Machine.world c.in-Err-store_all.cut.1) c.in-Ok.ensures serves keeping
     (λ b l settled kept. c.in-Err-store_all.ensures.run told plan k b l stands settled kept)
+
+pub returns-in-Err-store_all-clause-full : goal.returns-in-Err-store_all-clause-full
+returns-in-Err-store_all-clause-full g c = λ told plan k begun log stands serves keeping.
+    stops_storing begun log c.args.datagram.now c.args.service.now c.args.journal c.admit.new.hub c.in-Ok.brought.reply c.in-Ok.brought.nacks.items plan k c.in-Err-store_all.cut.0 c.in-Ok.ensures serves keeping
+    (λ b l settled kept. c.in-Err-store_all.ensures.fails told plan k b l stands settled kept)
