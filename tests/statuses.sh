@@ -24,6 +24,9 @@ for number in {1..200}; do
     printf '\1\0\0\0\0\1\0\0\52\0\0\0'
     head -c 60000 /dev/zero
 done >> "$folder/many"
+# Two files of a journal: one that is a folder itself, and one of ten zeros.
+mkdir -p "$folder/no_file/journal.0" "$folder/no_journal"
+head -c 10 /dev/zero > "$folder/no_journal/journal.1"
 export folder
 
 # A command line must end with this status, and say this line.
@@ -32,6 +35,14 @@ ends() {
     status=$?
     if [ "$status" != "$1" ] || [ "$said" != "$2" ]; then
         echo "tests/statuses.sh: $3: ended with $status and said: $said"
+        failed=1
+    fi
+}
+
+# And it must have printed this.
+prints() {
+    if [ "$(cat "$folder/printed")" != "$1" ]; then
+        echo "tests/statuses.sh: printed: $(cat "$folder/printed")"
         failed=1
     fi
 }
@@ -45,6 +56,13 @@ ends 3 'durability: out of memory' 'ulimit -v 6000; "$program" list < "$folder/m
 ends 4 'durability: input 10 LongDatagram' '"$program" show < "$folder/long"'
 ends 5 'durability: read fault' '"$program" show < /'
 ends 6 'durability: write fault' '"$program" show < "$folder/input" > /dev/full'
+ends 7 'durability: disk fault' '"$program" check --dir "$folder/no_file"'
+ends 7 'durability: disk fault' '"$program" check --dir "$folder/input"'
 ends 8 'durability: plan 2 Word' '"$program" show < "$folder/bad_plan"'
+ends 9 'durability: not a journal 1 0' '"$program" check --dir "$folder/no_journal"'
+prints $'file 0 blank\nfile 1 broken 0'
+ends 0 '' '"$program" check --dir "$folder/none"'
+prints $'file 0 blank\nfile 1 blank'
+if [ -e "$folder/none" ] || [ -e "$folder/no_journal/journal.0" ]; then echo "tests/statuses.sh: check made a file"; failed=1; fi
 [ "$failed" = 0 ] && echo "each status: as its input calls for"
 exit "$failed"

@@ -63,7 +63,7 @@ fresh_feed seen p o =
     (omega (arith, before, o.within), ap (λ (f : Feeding). f.taken) o.feed_is, ap (λ (f : Feeding). f.fault) o.feed_is)
 
 -- what holds of the octets behind the plan
-lifted : (known mid : Option (List ℕ)) (seen : List ℕ) (p : Opened) (o : Opens seen p) (F : ℕ → List ℕ → Type 0) (P : List ℕ → Type 0) → Consumes known mid seen
+pub lifted : (known mid : Option (List ℕ)) (seen : List ℕ) (p : Opened) (o : Opens seen p) (F : ℕ → List ℕ → Type 0) (P : List ℕ → Type 0) → Consumes known mid seen
     → IfSome mid (λ tail. F p.feed.before (p.feed.left ++ tail)) → ((input : List ℕ) → PlanText input p.plan o.n → F o.n (drop o.n input) → P input) → IfSome known P
 lifted known mid seen p o F P consumed holds leads =
     behind known mid seen P (λ tail. F p.feed.before (p.feed.left ++ tail)) consumed holds (λ tail h.

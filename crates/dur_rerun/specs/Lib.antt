@@ -5,5 +5,6 @@ pub mod Files
 pub mod Input
 pub mod Late
 pub mod List
+pub mod Rerun
 pub mod Saying
 pub mod Show

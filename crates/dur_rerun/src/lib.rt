@@ -9,6 +9,7 @@ mod input;
 pub mod late;
 pub mod list;
 mod output;
+pub mod rerun;
 pub mod show;
 mod status;
 mod text;

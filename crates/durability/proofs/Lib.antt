@@ -1,4 +1,5 @@
 pub mod Lines
+pub mod OneLine
 pub mod Parses
 pub mod Rules
 pub mod Spelling

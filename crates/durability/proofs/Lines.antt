@@ -17,16 +17,14 @@ use Rattle.clap.specs.declared.error.kind.ErrorKind.{ErrorKind}
 use Rattle.clap.specs.declared.error.kind.ErrorKind.TheVariants as kind
 use Rattle.clap.specs.declared.parser.matches.ArgMatches.{ArgMatches}
 use Rattle.clap.proofs.WalkLemmas.{both, first_value-rows}
-use Rattle.durability.specs.declared.words.Line.{Line}
-use Rattle.durability.specs.declared.words.Line.TheVariants as line
 use Rattle.durability.specs.declared.words.WordsFault.TheVariants.{Usage, OutOfMemory}
 use Rattle.durability.specs.Options.{Given, Spells, IsNew, AreNew, IsPlain, IsOptions, value_of, IsNumber, IsHex, IsText, IsCount}
-use Rattle.durability.specs.Commands.{command_of, list_names, show_names, late_names, HasOptions, AreNames, words_fault}
-use Rattle.durability.specs.CommandLine.{IsList, IsShow, IsLate, IsLine}
+use Rattle.durability.specs.Commands.{command_of, list_names, show_names, dir_names, late_names, HasOptions, AreNames, words_fault}
+use Rattle.durability.specs.CommandLine.{IsList, IsShow, HasDir, IsOver, IsLate}
 use Rattle.durability.proofs.Spelling.{eq_of, eq_same, eq_not, bool_no, not_dashes, not_nil}
 use Rattle.durability.proofs.Rules.{knows, row}
 use Rattle.durability.proofs.Walks.{rows_of, Follows, Known, Plain, NoDashes, NamesOk, dashed_some}
-use Rattle.durability.proofs.Values.{hex_plain, hex_once, text_plain, text_once}
+use Rattle.durability.proofs.Values.{hex_plain, text_plain}
 use Rattle.durability.proofs.Parses.{matches_are, options_read, options_pass}
 
 -- ---- numbers
@@ -97,7 +95,7 @@ first_is name (o ∷ more) = go (bytes_eq o.name name) refl (first_is name more)
   go true e later = rw e refl
   go false e later = rw e later
 
-rows_once : (a b : List Given) → rows_of a ≡ rows_of b → a ≡ b
+pub rows_once : (a b : List Given) → rows_of a ≡ rows_of b → a ≡ b
 rows_once [] [] h = refl
 rows_once [] (y ∷ b) h = absurd cc
 rows_once (x ∷ a) [] h = absurd cc
@@ -227,6 +225,18 @@ show_is words m epoch e h eis en el =
 as_given : (P : Option Text → Type 0) (names words : List Text) (m : ArgMatches) (h : HasOptions names words m) (name : Text) (o : Option Text) → o ≡ first_value (found_of m) name → P o → P (value_of name h.given)
 as_given P names words m h name o is holds = subst P (is ∙ h.values name) holds
 
+pub dir_is : (words : List Text) (m : ArgMatches) (dir : List ℕ) (d : Option Text) → (h : HasOptions dir_names words m) → d ≡ first_value (found_of m) (codes "dir") → IsText d dir → HasDir words dir
+dir_is words m dir d h dis dt =
+    let ds : IsText (value_of (codes "dir") h.given) dir = as_given (λ o. IsText o dir) dir_names words m h (codes "dir") d dis dt in
+    record {
+      given = h.given;
+      options = are_options dir_names words m h (text_plain (value_of (codes "dir") h.given) dir ds, tt);
+      dir_is = ds;
+    }
+
+pub over_is : (word : Text) (words : List Text) (dir : List ℕ) → HasDir words dir → IsOver word (word ∷ words) dir
+over_is word words dir h = record { rest = words; words_are = refl; has = h }
+
 pub late_is : (words : List Text) (m : ArgMatches) (reader prefix writer peer : List ℕ) (turns : ℕ) (r p w e t : Option Text) → (h : HasOptions late_names words m)
     → r ≡ first_value (found_of m) (codes "reader") → p ≡ first_value (found_of m) (codes "prefix") → w ≡ first_value (found_of m) (codes "writer") → e ≡ first_value (found_of m) (codes "peer") → t ≡ first_value (found_of m) (codes "turns")
     → IsHex 16 r reader → IsHex 8 p prefix → IsHex 4 w writer → IsText e peer → IsCount t turns → turns < 2 ^ 32
@@ -261,62 +271,7 @@ late_is words m reader prefix writer peer turns r p w e t h ris pis wis eis tis 
       turns_is = (ts, tl);
     }
 
--- ---- no other line
-
-abbrev slice_first : List Text → Text
-slice_first [] = []
-slice_first (w ∷ words) = w
-
-abbrev rest_of : List Text → List Text
-rest_of [] = []
-rest_of (w ∷ words) = words
-
--- words begin with one word
-other_words : (a b : Text) (r s : List Text) → bytes_eq a b ≡ false → a ∷ r ≡ b ∷ s → ⊥
-other_words a b r s differ same =
-    let first : a ≡ b = ap (λ (w : List Text). slice_first w) same in
-    bool_no (bytes_eq a b) (ap (bytes_eq a) (sym first) ∙ eq_same a) differ
-
--- a line whose first word is `list`, or `show`, or `late`
-line_of_list : (words : List Text) (l : Line) → IsLine (codes "list" ∷ words) l → (at : ℕ) × (epoch : ℕ) × (l ≡ line.List at epoch) × IsList (codes "list" ∷ words) at epoch
-line_of_list words (line.List at epoch) h = (at, epoch, refl, h)
-line_of_list words (line.Show epoch) h = absurd (other_words (codes "list") (codes "show") words h.rest refl h.words_are)
-line_of_list words (line.Late reader prefix writer peer turns) h = absurd (other_words (codes "list") (codes "late") words h.rest refl h.words_are)
-
-line_of_show : (words : List Text) (l : Line) → IsLine (codes "show" ∷ words) l → (epoch : ℕ) × (l ≡ line.Show epoch) × IsShow (codes "show" ∷ words) epoch
-line_of_show words (line.List at epoch) h = absurd (other_words (codes "show") (codes "list") words h.rest refl h.words_are)
-line_of_show words (line.Show epoch) h = (epoch, refl, h)
-line_of_show words (line.Late reader prefix writer peer turns) h = absurd (other_words (codes "show") (codes "late") words h.rest refl h.words_are)
-
-line_of_late : (words : List Text) (l : Line) → IsLine (codes "late" ∷ words) l
-    → (reader : List ℕ) × (prefix : List ℕ) × (writer : List ℕ) × (peer : List ℕ) × (turns : ℕ) × (l ≡ line.Late reader prefix writer peer turns) × IsLate (codes "late" ∷ words) reader prefix writer peer turns
-line_of_late words (line.List at epoch) h = absurd (other_words (codes "late") (codes "list") words h.rest refl h.words_are)
-line_of_late words (line.Show epoch) h = absurd (other_words (codes "late") (codes "show") words h.rest refl h.words_are)
-line_of_late words (line.Late reader prefix writer peer turns) h = (reader, prefix, writer, peer, turns, refl, h)
-
--- the words of `list` are no line where their options are none, or their numbers are none
-pub list_no : (words : List Text) (l : Line) → ((given : List Given) (at epoch : ℕ) → IsOptions list_names words given → IsNumber (value_of (codes "at") given) at → at < 2 ^ 64 → IsNumber (value_of (codes "epoch") given) epoch → epoch < 2 ^ 32 → ⊥)
-    → IsLine (codes "list" ∷ words) l → ⊥
-list_no words l never is =
-    let h = (line_of_list words l is).3 in
-    let rest : h.rest ≡ words = sym (ap (λ (w : List Text). rest_of w) h.words_are) in
-    never h.given (line_of_list words l is).0 (line_of_list words l is).1 (subst (λ (w : List Text). IsOptions list_names w h.given) rest h.options) h.at_is.0 h.at_is.1 h.epoch_is.0 h.epoch_is.1
-
-pub show_no : (words : List Text) (l : Line) → ((given : List Given) (epoch : ℕ) → IsOptions show_names words given → IsNumber (value_of (codes "epoch") given) epoch → epoch < 2 ^ 32 → ⊥) → IsLine (codes "show" ∷ words) l → ⊥
-show_no words l never is =
-    let h = (line_of_show words l is).2 in
-    let rest : h.rest ≡ words = sym (ap (λ (w : List Text). rest_of w) h.words_are) in
-    never h.given (line_of_show words l is).0 (subst (λ (w : List Text). IsOptions show_names w h.given) rest h.options) h.epoch_is.0 h.epoch_is.1
-
--- the words of `late` are no line where no options make one of them
-pub late_no : (words : List Text) (l : Line) → ((given : List Given) (reader prefix writer peer : List ℕ) (turns : ℕ) → IsOptions late_names words given
-    → IsHex 16 (value_of (codes "reader") given) reader → IsHex 8 (value_of (codes "prefix") given) prefix → IsHex 4 (value_of (codes "writer") given) writer → IsText (value_of (codes "peer") given) peer → IsCount (value_of (codes "turns") given) turns → turns < 2 ^ 32 → ⊥)
-    → IsLine (codes "late" ∷ words) l → ⊥
-late_no words l never is =
-    let found = line_of_late words l is in
-    let h = found.6 in
-    let rest : h.rest ≡ words = sym (ap (λ (w : List Text). rest_of w) h.words_are) in
-    never h.given found.0 found.1 found.2 found.3 found.4 (subst (λ (w : List Text). IsOptions late_names w h.given) rest h.options) h.reader_is h.prefix_is h.writer_is h.peer_is h.turns_is.0 h.turns_is.1
+-- ---- values that are none
 
 -- the value of an option that is none
 pub value_no : (P : Option Text → Type 0) (names words : List Text) (m : ArgMatches) (h : HasOptions names words m) (name : Text) (o : Option Text) (given : List Given) → o ≡ first_value (found_of m) name → (P o → ⊥)
@@ -337,7 +292,7 @@ simple_of a h = (both (is_simple a) (is_free_app (built a)) h).0
 pub same_err : {A B E : Type 0} (x y z : E) → (let r : Result A E = Err x in r ≡ Err z) → x ≡ y → (let r : Result B E = Err y in r ≡ Err z)
 same_err {A} {B} {E} x y z is same = let last : x ≡ z = cc in ap (λ (e : E). let r : Result B E = Err e in r) (sym same ∙ last)
 
--- ---- one line
+-- ---- the names of options
 
 pub list_are : AreNames list_names
 list_are = ((λ is. absurd cc, refl), ((λ is. absurd cc, refl), tt))
@@ -345,47 +300,8 @@ list_are = ((λ is. absurd cc, refl), ((λ is. absurd cc, refl), tt))
 pub show_are : AreNames show_names
 show_are = ((λ is. absurd cc, refl), tt)
 
+pub dir_are : AreNames dir_names
+dir_are = ((λ is. absurd cc, refl), tt)
+
 pub late_are : AreNames late_names
 late_are = ((λ is. absurd cc, refl), ((λ is. absurd cc, refl), ((λ is. absurd cc, refl), ((λ is. absurd cc, refl), ((λ is. absurd cc, refl), tt)))))
-
-one_given : (name : Text) (names words : List Text) (a b : List Given) → AreNames names → IsOptions names words a → IsOptions names words b → a ≡ b
-one_given name names words a b ok x y = rows_once a b (sym (passes name names words a ok x).1 ∙ (passes name names words b ok y).1)
-
-list_once : (words : List Text) (at epoch at' epoch' : ℕ) → IsList words at epoch → IsList words at' epoch' → line.List at epoch ≡ line.List at' epoch'
-list_once words at epoch at' epoch' h k =
-    let rest : h.rest ≡ k.rest = ap (λ (w : List Text). rest_of w) (sym h.words_are ∙ k.words_are) in
-    let given : h.given ≡ k.given = one_given (codes "list") list_names k.rest h.given k.given list_are (subst (λ (w : List Text). IsOptions list_names w h.given) rest h.options) k.options in
-    let ats : at ≡ at' = number_once (value_of (codes "at") k.given) at at' h.at_is.1 k.at_is.1 (subst (λ (g : List Given). IsNumber (value_of (codes "at") g) at) given h.at_is.0) k.at_is.0 in
-    let epochs : epoch ≡ epoch' = number_once (value_of (codes "epoch") k.given) epoch epoch' (omega (arith, h.epoch_is.1)) (omega (arith, k.epoch_is.1)) (subst (λ (g : List Given). IsNumber (value_of (codes "epoch") g) epoch) given h.epoch_is.0) k.epoch_is.0 in
-    ap (λ (n : ℕ). line.List n epoch) ats ∙ ap (λ (n : ℕ). line.List at' n) epochs
-
-show_once : (words : List Text) (epoch epoch' : ℕ) → IsShow words epoch → IsShow words epoch' → line.Show epoch ≡ line.Show epoch'
-show_once words epoch epoch' h k =
-    let rest : h.rest ≡ k.rest = ap (λ (w : List Text). rest_of w) (sym h.words_are ∙ k.words_are) in
-    let given : h.given ≡ k.given = one_given (codes "show") show_names k.rest h.given k.given show_are (subst (λ (w : List Text). IsOptions show_names w h.given) rest h.options) k.options in
-    let epochs : epoch ≡ epoch' = number_once (value_of (codes "epoch") k.given) epoch epoch' (omega (arith, h.epoch_is.1)) (omega (arith, k.epoch_is.1)) (subst (λ (g : List Given). IsNumber (value_of (codes "epoch") g) epoch) given h.epoch_is.0) k.epoch_is.0 in
-    ap (λ (n : ℕ). line.Show n) epochs
-
--- the words of `late` say one reader, prefix, writer, peer and number of turns
-pub late_once : (words : List Text) (r p w e r' p' w' e' : List ℕ) (t t' : ℕ) → IsLate words r p w e t → IsLate words r' p' w' e' t' → line.Late r p w e t ≡ line.Late r' p' w' e' t'
-late_once words r p w e r' p' w' e' t t' h k =
-    let rest : h.rest ≡ k.rest = ap (λ (x : List Text). rest_of x) (sym h.words_are ∙ k.words_are) in
-    let given : h.given ≡ k.given = one_given (codes "late") late_names k.rest h.given k.given late_are (subst (λ (x : List Text). IsOptions late_names x h.given) rest h.options) k.options in
-    let rs : r ≡ r' = hex_once 16 (value_of (codes "reader") k.given) r r' (subst (λ (g : List Given). IsHex 16 (value_of (codes "reader") g) r) given h.reader_is) k.reader_is in
-    let ps : p ≡ p' = hex_once 8 (value_of (codes "prefix") k.given) p p' (subst (λ (g : List Given). IsHex 8 (value_of (codes "prefix") g) p) given h.prefix_is) k.prefix_is in
-    let ws : w ≡ w' = hex_once 4 (value_of (codes "writer") k.given) w w' (subst (λ (g : List Given). IsHex 4 (value_of (codes "writer") g) w) given h.writer_is) k.writer_is in
-    let es : e ≡ e' = text_once (value_of (codes "peer") k.given) e e' (subst (λ (g : List Given). IsText (value_of (codes "peer") g) e) given h.peer_is) k.peer_is in
-    let ts : t ≡ t' = number_once (value_of (codes "turns") k.given) t t' (omega (arith, h.turns_is.1)) (omega (arith, k.turns_is.1)) (subst (λ (g : List Given). IsNumber (value_of (codes "turns") g) t) given h.turns_is.0.0) k.turns_is.0.0 in
-    ap (λ (x : List ℕ). line.Late x p w e t) rs ∙ ap (λ (x : List ℕ). line.Late r' x w e t) ps ∙ ap (λ (x : List ℕ). line.Late r' p' x e t) ws
-    ∙ ap (λ (x : List ℕ). line.Late r' p' w' x t) es ∙ ap (λ (x : ℕ). line.Late r' p' w' e' x) ts
-
-pub one_line : (words : List Text) (a b : Line) → IsLine words a → IsLine words b → a ≡ b
-one_line words (line.List at epoch) b h k =
-    let other = line_of_list h.rest b (subst (λ (w : List Text). IsLine w b) h.words_are k) in
-    list_once (codes "list" ∷ h.rest) at epoch other.0 other.1 (subst (λ (w : List Text). IsList w at epoch) h.words_are h) other.3 ∙ sym other.2
-one_line words (line.Show epoch) b h k =
-    let other = line_of_show h.rest b (subst (λ (w : List Text). IsLine w b) h.words_are k) in
-    show_once (codes "show" ∷ h.rest) epoch other.0 (subst (λ (w : List Text). IsShow w epoch) h.words_are h) other.2 ∙ sym other.1
-one_line words (line.Late r p w e t) b h k =
-    let other = line_of_late h.rest b (subst (λ (x : List Text). IsLine x b) h.words_are k) in
-    late_once (codes "late" ∷ h.rest) r p w e other.0 other.1 other.2 other.3 t other.4 (subst (λ (x : List Text). IsLate x r p w e t) h.words_are h) other.6 ∙ sym other.5

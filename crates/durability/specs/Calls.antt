@@ -1,6 +1,9 @@
 -- The lines of each top call, and what each of them answers.
 use Rattle.std.specs.Prelude.{◌≡◌, ℕ, List}
+use Rattle.dur_outside.specs.World.{Image}
 use Rattle.dur_rerun.specs.declared.status.Status.{Status}
+use Rattle.dur_rerun.specs.Command.{GoesOut}
+use Rattle.dur_rerun.specs.Check.Answer.{CheckAnswers, HasCheckReason, IsComplete}
 use Rattle.dur_rerun.specs.List.Answer.{ListAnswers, ListEnds}
 use Rattle.dur_rerun.specs.Show.Answer.{ShowAnswers, ShowEnds}
 use Rattle.rel_writer.specs.LateReaders.{Late, fresh}
@@ -14,11 +17,25 @@ use Rattle.durability.specs.CommandLine.{IsLine}
 abbrev pub IsOwn : Line → Type 0
 IsOwn (line.List at epoch) = Unit {0}
 IsOwn (line.Show epoch) = Unit {0}
+IsOwn (line.Check dir) = Unit {0}
 IsOwn (line.Late reader prefix writer peer turns) = ⊥
 
 -- the words are this line of its own
 abbrev pub IsOwnLine : List (List ℕ) → Line → Type 0
 IsOwnLine words l = IsLine words l × IsOwn l
+
+-- ---- the lines that answer an input
+
+-- these do, and call no file
+abbrev pub IsOfInput : Line → Type 0
+IsOfInput (line.List at epoch) = Unit {0}
+IsOfInput (line.Show epoch) = Unit {0}
+IsOfInput (line.Check dir) = ⊥
+IsOfInput (line.Late reader prefix writer peer turns) = ⊥
+
+-- the words are such a line
+abbrev pub IsInputLine : List (List ℕ) → Line → Type 0
+IsInputLine words l = IsLine words l × IsOfInput l
 
 abbrev no_answers : List ℕ → List ℕ → Status → Type 0
 no_answers input text status = ⊥
@@ -30,13 +47,37 @@ no_ends status = ⊥
 abbrev pub answers_of : Line → List ℕ → List ℕ → Status → Type 0
 answers_of (line.List at epoch) = ListAnswers at epoch
 answers_of (line.Show epoch) = ShowAnswers epoch
+answers_of (line.Check dir) = no_answers
 answers_of (line.Late reader prefix writer peer turns) = no_answers
 
 -- the statuses with which it ends
 abbrev pub ends_of : Line → Status → Type 0
 ends_of (line.List at epoch) = ListEnds
 ends_of (line.Show epoch) = ShowEnds
+ends_of (line.Check dir) = no_ends
 ends_of (line.Late reader prefix writer peer turns) = no_ends
+
+-- ---- the line that answers the two files
+
+-- this one does
+abbrev pub IsCheck : Line → Type 0
+IsCheck (line.List at epoch) = ⊥
+IsCheck (line.Show epoch) = ⊥
+IsCheck (line.Check dir) = Unit {0}
+IsCheck (line.Late reader prefix writer peer turns) = ⊥
+
+-- the words are such a line
+abbrev pub IsCheckLine : List (List ℕ) → Line → Type 0
+IsCheckLine words l = IsLine words l × IsCheck l
+
+-- What becomes of a run of `check`.
+pub record RunsCheck (tells : Type 0) (s : Status) (old new : Image) (writes writes_now : ℕ) : Type 0 where
+  -- the status has its reason
+  pub reason : HasCheckReason s writes writes_now
+  -- where no call failed it is that of the first broken file, or memory ran out
+  pub complete : tells → IsComplete old s writes writes_now
+  -- what went out is the text for the files, or a front of it, and no file is changed
+  pub out : tells → GoesOut CheckAnswers old s tells old new
 
 -- ---- the call `late`
 
@@ -46,6 +87,7 @@ IsOfLate (line.Late reader prefix writer peer turns) first most =
     (first ≡ fresh reader prefix writer) × (most ≡ turns)
 IsOfLate (line.List at epoch) first most = ⊥
 IsOfLate (line.Show epoch) first most = ⊥
+IsOfLate (line.Check dir) first most = ⊥
 
 -- the words do
 abbrev pub AsksFor : List (List ℕ) → Late → ℕ → Type 0

@@ -3,7 +3,7 @@ use Rattle.std.specs.Prelude.{◌≡◌, ◌<◌, ◌^◌, ℕ, List, ◌∷◌,
 use Rattle.durability.specs.declared.words.Line.{Line}
 use Rattle.durability.specs.declared.words.Line.TheVariants as line
 use Rattle.durability.specs.Options.{Given, IsOptions, IsNumber, IsHex, IsText, IsCount, value_of}
-use Rattle.durability.specs.Commands.{list_names, show_names, late_names}
+use Rattle.durability.specs.Commands.{list_names, show_names, dir_names, late_names}
 
 -- the word `list` and its options
 pub record IsList (words : List (List ℕ)) (at epoch : ℕ) : Type 0 where
@@ -22,6 +22,18 @@ pub record IsShow (words : List (List ℕ)) (epoch : ℕ) : Type 0 where
   pub options : IsOptions show_names rest given
   pub epoch_is : IsNumber (value_of (codes "epoch") given) epoch × (epoch < 2 ^ 32)
 
+-- the option `--dir`, which must be given
+pub record HasDir (words : List (List ℕ)) (dir : List ℕ) : Type 0 where
+  pub given : List Given
+  pub options : IsOptions dir_names words given
+  pub dir_is : IsText (value_of (codes "dir") given) dir
+
+-- a word and that option
+pub record IsOver (word : List ℕ) (words : List (List ℕ)) (dir : List ℕ) : Type 0 where
+  pub rest : List (List ℕ)
+  pub words_are : words ≡ word ∷ rest
+  pub has : HasDir rest dir
+
 -- the word `late` and its options, all of which must be given
 pub record IsLate (words : List (List ℕ)) (reader prefix writer peer : List ℕ) (turns : ℕ) : Type 0 where
   pub rest : List (List ℕ)
@@ -38,4 +50,5 @@ pub record IsLate (words : List (List ℕ)) (reader prefix writer peer : List �
 abbrev pub IsLine : List (List ℕ) → Line → Type 0
 IsLine words (line.List at epoch) = IsList words at epoch
 IsLine words (line.Show epoch) = IsShow words epoch
+IsLine words (line.Check dir) = IsOver (codes "check") words dir
 IsLine words (line.Late reader prefix writer peer turns) = IsLate words reader prefix writer peer turns

@@ -26,6 +26,9 @@ list_names = codes "at" ∷ codes "epoch" ∷ []
 abbrev pub show_names : List (List ℕ)
 show_names = codes "epoch" ∷ []
 
+abbrev pub dir_names : List (List ℕ)
+dir_names = codes "dir" ∷ []
+
 abbrev pub late_names : List (List ℕ)
 late_names = codes "reader" ∷ codes "prefix" ∷ codes "writer" ∷ codes "peer" ∷ codes "turns" ∷ []
 

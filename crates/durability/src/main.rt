@@ -2,6 +2,7 @@
 #![tactic(auto)]
 
 mod argument;
+mod files;
 mod late;
 mod run;
 mod status;
@@ -9,9 +10,10 @@ mod status;
 mod tests;
 mod words;
 
-use dur_outside::{OutputRig, Sink, StdSink, StdSource, UdpLink};
+use dur_outside::{FileDisk, FileRig, OutputRig, Rig, Sink, StdSink, StdSource, UdpLink};
 use dur_rerun::Status;
 use dur_rerun::late::LateStatus;
+use files::files_to_read;
 use late::{late_number, say_late_fault};
 use run::durability;
 use status::{number, say_fault};
@@ -34,13 +36,46 @@ fn main(rt: HostRuntime) -> ExitCode {
             return ExitCode::from(number(&status));
         }
     };
-    if let Ok(Line::Late { peer, .. }) = read_words(rt.alloc(), &words) {
-        return run_late(&rt, &words, peer.text(), &mut err);
+    match read_words(rt.alloc(), &words) {
+        Ok(Line::Late { peer, .. }) => run_late(&rt, &words, peer.text(), &mut err),
+        Ok(Line::Check { dir }) => run_over(&rt, &words, files_to_read(&rt, dir.text()), &mut err),
+        _ => {
+            let rig = OutputRig::new(StdSink::new(rt.stdout()));
+            run_with(&rt, &words, rig, &mut err)
+        }
     }
+}
+
+/// Runs a command over standard input and this rig.
+fn run_with<R: Rig + Drop, E: Sink>(
+    rt: &HostRuntime,
+    words: &[String],
+    rig: R,
+    err: &mut E,
+) -> ExitCode {
     let mut input = StdSource::new(rt.stdin());
-    let rig = OutputRig::new(StdSink::new(rt.stdout()));
-    let ran = durability(rt.alloc(), &words, &mut input, rig, &mut err);
+    let ran = durability(rt.alloc(), words, &mut input, rig, err);
     ExitCode::from(number(&ran.status))
+}
+
+/// Runs a command over these files and standard output, or says why there are none.
+fn run_over<E: Sink>(
+    rt: &HostRuntime,
+    words: &[String],
+    files: io::Result<FileDisk>,
+    err: &mut E,
+) -> ExitCode {
+    match files {
+        Ok(files) => {
+            let rig = FileRig::new(files, StdSink::new(rt.stdout()));
+            run_with(rt, words, rig, err)
+        }
+        Err(error) => {
+            let status = status_of_files(&error);
+            say_fault(err, &status);
+            ExitCode::from(number(&status))
+        }
+    }
 }
 
 /// Runs `late` over a socket to that address, and says what went wrong.
@@ -86,6 +121,14 @@ fn status_of_words(error: &io::Error) -> Status {
     match error.kind() {
         io::ErrorKind::OutOfMemory => Status::OutOfMemory,
         _ => Status::Usage,
+    }
+}
+
+/// The status where a file cannot be had.
+fn status_of_files(error: &io::Error) -> Status {
+    match error.kind() {
+        io::ErrorKind::OutOfMemory => Status::OutOfMemory,
+        _ => Status::DiskFault,
     }
 }
 

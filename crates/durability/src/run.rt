@@ -5,12 +5,14 @@ ghost use Rattle.dur_outside.specs.Causes.{Rose};
 ghost use Rattle.dur_rerun.specs.Command.{HasReason, Arrives, GoesOut, Keeps};
 ghost use Rattle.dur_rerun.specs.Saying.{IsSaid, wrote};
 ghost use Rattle.durability.specs.Calls.{IsOwn, IsOwnLine, answers_of, ends_of};
+ghost use Rattle.durability.specs.Calls.{IsOfInput, IsInputLine, IsCheck, IsCheckLine, RunsCheck};
 ghost use Rattle.durability.specs.Status.{fault_line};
 ghost use Rattle.durability.specs.declared.words.Line.{Line};
 
 use crate::status::say_fault;
 use crate::words::{Line, WordsFault, read_words};
 use dur_outside::{Rig, Sink, Source};
+use dur_rerun::check::check;
 use dur_rerun::list::list;
 use dur_rerun::show::show;
 use dur_rerun::{Ran, Status};
@@ -20,21 +22,23 @@ use std::alloc::Global;
 fn run<S: Source, R: Rig>(alloc: Global, line: Line, input: &mut S, rig: R) -> Ran<R>
     ensures usage { (IsOwn line → ⊥) → result.status ≡ Status.Usage }
     ensures untouched { result.status ≡ Status.Usage → (input.new ≡ input.old) × (result.rig ≡ rig) }
-    ensures reason { IsOwn line → HasReason (ends_of line) result.status (S.left input.new)
-        (S.faults input.old) (S.faults input.new)
-        (R.sink_faults rig) (R.sink_faults result.rig) }
-    ensures arrives { IsOwn line → IfSome (S.left input.old) (λ bytes.
-        Arrives (answers_of line) bytes result.status (S.faults input.old) (S.faults input.new)
-        (R.sink_faults rig) (R.sink_faults result.rig)) }
-    ensures out { IsOwn line → IfSome (S.left input.old) (λ bytes.
-        GoesOut (answers_of line) bytes result.status R.tells
-        (R.world rig).now (R.world result.rig).now) }
-    ensures keeps { Keeps R.tells (R.world rig).now (R.world result.rig).now
+    ensures reason { IsOfInput line → HasReason (ends_of line) result.status (S.left input.new)
+        (S.faults input.old) (S.faults input.new) (R.sink_faults rig) (R.sink_faults result.rig) }
+    ensures arrives { IsOfInput line → IfSome (S.left input.old) (λ bytes. Arrives (answers_of line) bytes result.status
+        (S.faults input.old) (S.faults input.new) (R.sink_faults rig) (R.sink_faults result.rig)) }
+    ensures out { IsOfInput line → IfSome (S.left input.old) (λ bytes.
+        GoesOut (answers_of line) bytes result.status R.tells (R.world rig).now (R.world result.rig).now) }
+    ensures checks { IsCheck line → RunsCheck R.tells result.status
+        (R.world rig).now (R.world result.rig).now (R.sink_faults rig) (R.sink_faults result.rig) }
+    ensures unread { IsCheck line → input.new ≡ input.old }
+    ensures keeps { (IsCheck line → ⊥)
+        → Keeps R.tells (R.world rig).now (R.world result.rig).now
         (R.disk_faults rig) (R.disk_faults result.rig) }
 {
     match line {
         Line::List { at, epoch } => list(alloc, at, epoch, input, rig),
         Line::Show { epoch } => show(alloc, epoch, input, rig),
+        Line::Check { .. } => check(alloc, rig),
         Line::Late { .. } => Ran {
             status: Status::Usage,
             rig,
@@ -56,9 +60,10 @@ fn told<R: Rig, E: Sink>(ran: Ran<R>, err: &mut E) -> Ran<R>
 /// Does what the words after the program's name ask for, and hands the rig back.
 ///
 /// `list` reads a plan and a capture, and prints what the history that they admit entitles a late
-/// reader to. `show` prints a line for each record of the capture. Other words are `Usage`; those of
-/// `late` are, too, which is a call of its own. The status says what became of it, and a status other
-/// than `Done` is said on `err` in one line; that `err` fails changes no status.
+/// reader to. `show` prints a line for each record of the capture. `check` reads no input: it prints what the two
+/// files of the rig are, and what a journal over them would keep. Other words are `Usage`; those of `late` are, too,
+/// which is a call of its own. The status says what became of it, and a status other than `Done` is said on `err` in
+/// one line; that `err` fails changes no status.
 pub fn durability<S: Source, R: Rig, E: Sink>(
     alloc: Global,
     words: &[String],
@@ -72,20 +77,25 @@ pub fn durability<S: Source, R: Rig, E: Sink>(
     ensures none { ((line : Line) → IsOwnLine (map string_bytes words.now) line → ⊥)
         → (result.status ≡ Status.Usage) ⊎ (result.status ≡ Status.OutOfMemory) }
     ensures untouched { result.status ≡ Status.Usage → (input.new ≡ input.old) × (result.rig ≡ rig) }
-    // They are one.
-    ensures reason { (line : Line) → IsOwnLine (map string_bytes words.now) line
+    // They are `list` or `show`.
+    ensures reason { (line : Line) → IsInputLine (map string_bytes words.now) line
         → HasReason (ends_of line) result.status (S.left input.new)
-        (S.faults input.old) (S.faults input.new)
-        (R.sink_faults rig) (R.sink_faults result.rig) }
-    ensures arrives { (line : Line) → IsOwnLine (map string_bytes words.now) line
-        → IfSome (S.left input.old) (λ bytes.
-        Arrives (answers_of line) bytes result.status (S.faults input.old) (S.faults input.new)
-        (R.sink_faults rig) (R.sink_faults result.rig)) }
-    ensures out { (line : Line) → IsOwnLine (map string_bytes words.now) line
-        → IfSome (S.left input.old) (λ bytes.
-        GoesOut (answers_of line) bytes result.status R.tells
+        (S.faults input.old) (S.faults input.new) (R.sink_faults rig) (R.sink_faults result.rig) }
+    ensures arrives { (line : Line) → IsInputLine (map string_bytes words.now) line
+        → IfSome (S.left input.old) (λ bytes. Arrives (answers_of line) bytes result.status
+        (S.faults input.old) (S.faults input.new) (R.sink_faults rig) (R.sink_faults result.rig)) }
+    ensures out { (line : Line) → IsInputLine (map string_bytes words.now) line
+        → IfSome (S.left input.old) (λ bytes. GoesOut (answers_of line) bytes result.status R.tells
         (R.world rig).now (R.world result.rig).now) }
-    ensures keeps { Keeps R.tells (R.world rig).now (R.world result.rig).now
+    // They are `check`.
+    ensures checks { (line : Line) → IsCheckLine (map string_bytes words.now) line
+        → RunsCheck R.tells result.status (R.world rig).now (R.world result.rig).now
+        (R.sink_faults rig) (R.sink_faults result.rig) }
+    ensures unread { (line : Line) → IsCheckLine (map string_bytes words.now) line
+        → input.new ≡ input.old }
+    // They are not.
+    ensures keeps { ((line : Line) → IsCheckLine (map string_bytes words.now) line → ⊥)
+        → Keeps R.tells (R.world rig).now (R.world result.rig).now
         (R.disk_faults rig) (R.disk_faults result.rig) }
     // The line of a fault.
     ensures said { E.tells → IsSaid (fault_line result.status) (E.world err.old).now (E.world err.new).now }

@@ -1,5 +1,6 @@
 //! Command lines, what breaks an input, and each of a run's objects failing.
 
+mod files;
 mod late;
 mod rows;
 mod session_link;

@@ -1,8 +1,8 @@
 //! The command line.
 
-ghost use Rattle.std.specs.Prelude.{◌≡◌, ◌↔◌, ◌∷◌, Err, map, string_bytes, codes, IsTrue, IfOk};
+ghost use Rattle.std.specs.Prelude.{◌≡◌, ◌↔◌, ◌∷◌, ℕ, List, Err, map, string_bytes, codes, IsTrue, IfOk};
 ghost use Rattle.clap.specs.Values.{kind_of};
-ghost use Rattle.durability.specs.CommandLine.{IsLine};
+ghost use Rattle.durability.specs.CommandLine.{HasDir, IsLine};
 ghost use Rattle.durability.specs.Commands.{words_fault};
 ghost use Rattle.durability.specs.declared.words.Line.{Line as Asked};
 ghost use Rattle.durability.specs.declared.words.WordsFault.TheVariants as fault;
@@ -12,7 +12,7 @@ mod values;
 
 use crate::argument::Argument;
 use clap::error::ErrorKind;
-use commands::{late_command, list_command, options, show_command};
+use commands::{dir_command, late_command, list_command, options, show_command};
 use dur_base::{EntityId, Guid, Ticks};
 use std::alloc::{AllocError, Global};
 use values::{argument_of, count_of, number_of, octets_of};
@@ -32,6 +32,11 @@ pub enum Line {
     Show {
         /// The epoch of the service.
         epoch: u32,
+    },
+    /// A look at the two files of a journal.
+    Check {
+        /// The folder that the files stand in, which main alone reads.
+        dir: Argument,
     },
     /// A late reader over a link (DDSI-RTPS 8.4.12), which is a line of the call `late` alone.
     Late {
@@ -106,6 +111,25 @@ fn show_line(alloc: Global, words: &[String]) -> Result<Line, WordsFault>
     })
 }
 
+/// The folder that the words behind a subcommand name, as their only option.
+fn dir_of(alloc: Global, words: &[String]) -> Result<Argument, WordsFault>
+    ensures dir { IfOk result (λ dir. HasDir (map string_bytes words.now) dir) }
+    ensures usage { result ≡ Err WordsFault.Usage → (dir : List ℕ) → HasDir (map string_bytes words.now) dir → ⊥ }
+{
+    let command = dir_command(alloc)?;
+    let given = options(command, words)?;
+    argument_of(alloc, given.get_str("dir"))
+}
+
+/// The line of `check` with these words behind it.
+fn check_line(alloc: Global, words: &[String]) -> Result<Line, WordsFault>
+    ensures line { IfOk result (λ line. IsLine (codes "check" ∷ map string_bytes words.now) line) }
+    ensures usage { result ≡ Err WordsFault.Usage → (line : Asked) → IsLine (codes "check" ∷ map string_bytes words.now) line → ⊥ }
+{
+    let dir = dir_of(alloc, words)?;
+    Ok(Line::Check { dir })
+}
+
 /// The line of `late` with these words behind it.
 fn late_line(alloc: Global, words: &[String]) -> Result<Line, WordsFault>
     ensures line { IfOk result (λ line. IsLine (codes "late" ∷ map string_bytes words.now) line) }
@@ -140,6 +164,12 @@ fn is_show_word(word: &String) -> bool
     word.as_str() == "show"
 }
 
+fn is_check_word(word: &String) -> bool
+    ensures { IsTrue result ↔ (string_bytes word.now ≡ codes "check") }
+{
+    word.as_str() == "check"
+}
+
 fn is_late_word(word: &String) -> bool
     ensures { IsTrue result ↔ (string_bytes word.now ≡ codes "late") }
 {
@@ -158,6 +188,8 @@ pub fn read_words(alloc: Global, words: &[String]) -> Result<Line, WordsFault>
             list_line(alloc, rest)
         } else if is_show_word(word) {
             show_line(alloc, rest)
+        } else if is_check_word(word) {
+            check_line(alloc, rest)
         } else if is_late_word(word) {
             late_line(alloc, rest)
         } else {

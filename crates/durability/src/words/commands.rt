@@ -5,7 +5,7 @@ ghost use Rattle.std.specs.List.{list_any};
 ghost use Rattle.std.specs.Str.{bytes_eq};
 ghost use Rattle.clap.specs.Simple.{app_of, with_rule};
 ghost use Rattle.clap.specs.Faults.{is_simple_and_free};
-ghost use Rattle.durability.specs.Commands.{new_option, command_of, list_names, show_names, late_names, HasOptions, AreNames};
+ghost use Rattle.durability.specs.Commands.{new_option, command_of, list_names, show_names, dir_names, late_names, HasOptions, AreNames};
 ghost use Rattle.durability.specs.Options.{Given, IsOptions};
 
 use crate::words::WordsFault;
@@ -49,6 +49,14 @@ pub fn show_command<'a>(alloc: Global) -> Result<Command<'a>, AllocError>
 {
     let command = command(alloc, "show");
     with_option(alloc, command, "epoch")
+}
+
+/// A command that asks for a folder alone. Its own name, which clap would say in a help, is never printed.
+pub fn dir_command<'a>(alloc: Global) -> Result<Command<'a>, AllocError>
+    ensures { IfOk result (λ c. app_of c ≡ command_of (codes "dir") dir_names) }
+{
+    let command = command(alloc, "dir");
+    with_option(alloc, command, "dir")
 }
 
 /// The command `late`.

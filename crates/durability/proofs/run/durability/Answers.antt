@@ -2,19 +2,19 @@ use Rattle.std.specs.Prelude.{IfSome}
 use Rattle.dur_rerun.specs.Command.{Arrives, GoesOut}
 use Rattle.durability.specs.Calls.{answers_of}
 use Rattle.durability.specs.declared.words.Line.{Line}
-use Rattle.durability.proofs.TopCall.{each_own}
+use Rattle.durability.proofs.TopCall.{each_input}
 use Rattle.durability.proofs.run.durability.Goals as goal
 
 pub returns-in-Ok-clause-arrives : goal.returns-in-Ok-clause-arrives
 returns-in-Ok-clause-arrives g c l h =
     rw c.told.ensures.same
-    (each_own
+    (each_input
     (λ (x : Line). IfSome (g.S.Source.left c.args.input.now) (λ bytes. Arrives (answers_of x) bytes c.run.result.status (g.S.Source.faults c.args.input.now) (g.S.Source.faults c.run.new.input) (g.R.Machine.sink_faults c.args.rig) (g.R.Machine.sink_faults c.run.result.rig)))
     _ c.in-Ok.line c.in-Ok.ensures.line c.run.ensures.arrives l h)
 
 pub returns-in-Ok-clause-out : goal.returns-in-Ok-clause-out
 returns-in-Ok-clause-out g c l h =
     rw c.told.ensures.same
-    (each_own
+    (each_input
     (λ (x : Line). IfSome (g.S.Source.left c.args.input.now) (λ bytes. GoesOut (answers_of x) bytes c.run.result.status g.R.Machine.tells (g.R.Machine.world c.args.rig).now (g.R.Machine.world c.run.result.rig).now))
     _ c.in-Ok.line c.in-Ok.ensures.line c.run.ensures.out l h)

@@ -2,7 +2,8 @@ use Rattle.std.proofs.Common.{arith, ◌∙◌, sym, refl, codes}
 use Rattle.std.proofs.lemmas.Result.{err_from_is_err_and}
 use Rattle.durability.specs.Commands.{late_names}
 use Rattle.durability.specs.Options.{IsHex, IsText, IsCount}
-use Rattle.durability.proofs.Lines.{late_are, late_no, late_is, value_no, same_err}
+use Rattle.durability.proofs.Lines.{late_are, late_is, value_no, same_err}
+use Rattle.durability.proofs.OneLine.{late_no}
 use Rattle.durability.proofs.words.late_line.Goals as goal
 
 pub returns-in_err-given-clause-usage : goal.returns-in_err-given-clause-usage

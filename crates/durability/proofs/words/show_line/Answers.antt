@@ -1,7 +1,8 @@
 use Rattle.std.proofs.Common.{arith, ◌∙◌, sym, refl, codes}
 use Rattle.std.proofs.lemmas.Result.{err_from_is_err_and}
 use Rattle.durability.specs.Commands.{show_names}
-use Rattle.durability.proofs.Lines.{show_are, show_no, show_is, number_no, same_err}
+use Rattle.durability.proofs.Lines.{show_are, show_is, number_no, same_err}
+use Rattle.durability.proofs.OneLine.{show_no}
 use Rattle.durability.proofs.words.show_line.Goals as goal
 
 pub returns-in_err-given-clause-usage : goal.returns-in_err-given-clause-usage

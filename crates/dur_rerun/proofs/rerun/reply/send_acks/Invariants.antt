@@ -1,0 +1,15 @@
+use Rattle.std.proofs.Common.{◌≤◌}
+use Rattle.dur_rerun.specs.Rerun.Sending.{Stays}
+use Rattle.dur_rerun.specs.Rerun.Steps.{AreFirst}
+use Rattle.dur_rerun.proofs.SendsOut.{SoFar}
+use Rattle.dur_rerun.proofs.rerun.reply.send_acks.Given as goal
+
+-- the first ones went out
+abbrev pub invariant-loop-at : goal.invariant-loop-at
+invariant-loop-at g l = record {
+  goes : SoFar g.R.Machine.tells l.fn.journal l.journal (g.R.Machine.world l.fn.journal.disk) (g.R.Machine.world l.journal.disk)
+      l.head.moment l.head.port (AreFirst l.own l.acks l.at);
+  stays : Stays g.R.Machine.tells l.fn.journal l.journal (g.R.Machine.world l.journal.disk)
+      (g.R.Machine.disk_faults l.fn.journal.disk) (g.R.Machine.disk_faults l.journal.disk);
+  later : g.R.Machine.sink_faults l.fn.journal.disk ≤ g.R.Machine.sink_faults l.journal.disk;
+}
