@@ -60,9 +60,9 @@ memory_reason l own left reads reads_now writes writes_now = record { ends = mem
 pub memory_out : (l : Line) → IsOfInput l → (known : Option (List ℕ)) (tells : Type 0) (now : Image) → IfSome known (λ input. GoesOut (answers_of l) input OutOfMemory tells now now)
 memory_out l own known tells now = if_any known (λ input. GoesOut (answers_of l) input OutOfMemory tells now now) (λ input. nothing_out (answers_of l) input OutOfMemory tells now (memory_answers l own input))
 
-pub memory_checks : (tells : Type 0) (now : Image) (writes : ℕ) → RunsCheck tells OutOfMemory now now writes writes
-memory_checks tells now writes = record {
-  reason = record { ends = tt; write = λ is. absurd cc };
+pub memory_checks : (tells : Type 0) (now : Image) (disks writes : ℕ) → RunsCheck tells OutOfMemory now now disks disks writes writes
+memory_checks tells now disks writes = record {
+  reason = record { ends = tt; disk = λ is. absurd cc; write = λ is. absurd cc };
   complete = λ told looks are read written. inr refl;
   out = λ told. nothing_out CheckAnswers now OutOfMemory tells now refl;
 }

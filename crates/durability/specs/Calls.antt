@@ -71,11 +71,11 @@ abbrev pub IsCheckLine : List (List ℕ) → Line → Type 0
 IsCheckLine words l = IsLine words l × IsCheck l
 
 -- What becomes of a run of `check`.
-pub record RunsCheck (tells : Type 0) (s : Status) (old new : Image) (writes writes_now : ℕ) : Type 0 where
+pub record RunsCheck (tells : Type 0) (s : Status) (old new : Image) (disks disks_now writes writes_now : ℕ) : Type 0 where
   -- the status has its reason
-  pub reason : HasCheckReason s writes writes_now
+  pub reason : HasCheckReason s disks disks_now writes writes_now
   -- where no call failed it is that of the first broken file, or memory ran out
-  pub complete : tells → IsComplete old s writes writes_now
+  pub complete : tells → IsComplete old s disks disks_now writes writes_now
   -- what went out is the text for the files, or a front of it, and no file is changed
   pub out : tells → GoesOut CheckAnswers old s tells old new
 

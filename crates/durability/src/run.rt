@@ -29,7 +29,8 @@ fn run<S: Source, R: Rig>(alloc: Global, line: Line, input: &mut S, rig: R) -> R
     ensures out { IsOfInput line → IfSome (S.left input.old) (λ bytes.
         GoesOut (answers_of line) bytes result.status R.tells (R.world rig).now (R.world result.rig).now) }
     ensures checks { IsCheck line → RunsCheck R.tells result.status
-        (R.world rig).now (R.world result.rig).now (R.sink_faults rig) (R.sink_faults result.rig) }
+        (R.world rig).now (R.world result.rig).now (R.disk_faults rig) (R.disk_faults result.rig)
+        (R.sink_faults rig) (R.sink_faults result.rig) }
     ensures unread { IsCheck line → input.new ≡ input.old }
     ensures keeps { (IsCheck line → ⊥)
         → Keeps R.tells (R.world rig).now (R.world result.rig).now
@@ -90,7 +91,7 @@ pub fn durability<S: Source, R: Rig, E: Sink>(
     // They are `check`.
     ensures checks { (line : Line) → IsCheckLine (map string_bytes words.now) line
         → RunsCheck R.tells result.status (R.world rig).now (R.world result.rig).now
-        (R.sink_faults rig) (R.sink_faults result.rig) }
+        (R.disk_faults rig) (R.disk_faults result.rig) (R.sink_faults rig) (R.sink_faults result.rig) }
     ensures unread { (line : Line) → IsCheckLine (map string_bytes words.now) line
         → input.new ≡ input.old }
     // They are not.
