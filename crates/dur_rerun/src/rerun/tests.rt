@@ -24,6 +24,30 @@ writer a1a1a1a1a1a1a1a1a1a1a1a100000102 T -\nreader b2b2b2b2b2b2b2b2b2b2b2b20000
 const UNSERVED: &[u8] = b"prefix 0102030405060708\ntopic T transient hash 1 - - - - 0\n\
 writer a1a1a1a1a1a1a1a1a1a1a1a100000102 T -\nreader b2b2b2b2b2b2b2b2b2b2b2b200000107 T persistent\nend\n";
 
+/// Ten samples of an instance are kept.
+const DEEP: &[u8] = b"prefix 0102030405060708\ntopic T transient hash 10 - - - - 0\n\
+writer a1a1a1a1a1a1a1a1a1a1a1a100000102 T -\nend\n";
+
+/// The same of a persistent topic, with a late reader.
+const DEEP_READ: &[u8] = b"prefix 0102030405060708\ntopic T persistent hash 10 - - - - 0\n\
+writer a1a1a1a1a1a1a1a1a1a1a1a100000102 T -\nreader b2b2b2b2b2b2b2b2b2b2b2b200000107 T persistent\nend\n";
+
+/// Number 1 of the key aa, with 42, in the coherent set 1.
+const IN_SET: &[u8; 88] =
+    b"RTPS\x02\x05\0\0\xa1\xa1\xa1\xa1\xa1\xa1\xa1\xa1\xa1\xa1\xa1\xa1\x15\x07\x40\0\0\0\x10\0\0\0\0\0\
+\0\0\x01\x02\0\0\0\0\x01\0\0\0\x70\0\x10\0\xaa\xaa\xaa\xaa\xaa\xaa\xaa\xaa\xaa\xaa\xaa\xaa\xaa\xaa\xaa\xaa\
+\x56\0\x08\0\0\0\0\0\x01\0\0\0\x01\0\0\0\0\x01\0\0\x2a\0\0\0";
+
+/// A GAP of number 2.
+const GAP: &[u8] =
+    b"RTPS\x02\x05\0\0\xa1\xa1\xa1\xa1\xa1\xa1\xa1\xa1\xa1\xa1\xa1\xa1\x08\x01\x1c\0\0\0\0\0\
+\0\0\x01\x02\0\0\0\0\x02\0\0\0\0\0\0\0\x03\0\0\0\0\0\0\0";
+
+/// An ACKNACK of the late reader that asks for the numbers 1 to 4.
+const ASK_ALL: &[u8] =
+    b"RTPS\x02\x05\0\0\xb2\xb2\xb2\xb2\xb2\xb2\xb2\xb2\xb2\xb2\xb2\xb2\x0e\x01\x0c\0\0\0\0\0\0\0\0\0\0\0\0\0\
+\x06\x03\x1c\0\0\0\x01\x07\x01\0\x01\x02\0\0\0\0\x01\0\0\0\x04\0\0\0\0\0\0\xf0\x01\0\0\0";
+
 /// Number 1 of the key aa, with 42, in a DATA.
 const DATA: &[u8; 76] =
     b"RTPS\x02\x05\0\0\xa1\xa1\xa1\xa1\xa1\xa1\xa1\xa1\xa1\xa1\xa1\xa1\x15\x07\x34\0\0\0\x10\0\0\0\0\0\
@@ -45,7 +69,7 @@ const ASK: &[u8] =
 \x06\x03\x1c\0\0\0\x01\x07\x01\0\x01\x02\0\0\0\0\x01\0\0\0\x01\0\0\0\0\0\0\x80\x01\0\0\0";
 
 /// The first record of a replay of number 1, at moment 7 and port 1 of the epoch 1.
-const REPLAYED: &[u8] =
+const REPLAYED: &[u8; 150] =
     b"\x07\0\0\0\0\0\0\0\x01\0\x88\0\0\0RTPS\x02\x05\0\0\x01\x02\x03\x04\x05\x06\x07\x08\0\0\0\x01\
 \x0e\x01\x0c\0\xb2\xb2\xb2\xb2\xb2\xb2\xb2\xb2\xb2\xb2\xb2\xb2\x09\x01\x08\0\0\0\0\0\x05\0\0\0\x15\x07\x54\0\0\0\x10\0\0\0\x01\x07\
 \x01\0\x01\x02\0\0\0\0\x01\0\0\0\x70\0\x10\0\xaa\xaa\xaa\xaa\xaa\xaa\xaa\xaa\xaa\xaa\xaa\xaa\xaa\xaa\xaa\xaa\
@@ -68,6 +92,23 @@ fn ack(moment: u8, epoch: u8, flags: u8, base: u8, count: u8) -> [u8; 78] {
 fn data(number: u8) -> [u8; 76] {
     let mut bytes = *DATA;
     bytes[40] = number;
+    bytes
+}
+
+/// The same in the coherent set 1.
+fn in_set(number: u8) -> [u8; 88] {
+    let mut bytes = *IN_SET;
+    bytes[40] = number;
+    bytes
+}
+
+/// The record of a replay of that number, of that moment, in the epoch 2.
+fn replayed(number: u8, stamp: u8) -> [u8; 150] {
+    let mut bytes = *REPLAYED;
+    bytes[33] = 2;
+    bytes[58] = stamp;
+    bytes[82] = number;
+    bytes[130] = number;
     bytes
 }
 
@@ -134,6 +175,44 @@ fn a_missing_number_is_asked_for(rt: HostRuntime) {
 }
 
 #[test]
+fn a_gap_in_a_set_is_passed_over(rt: HostRuntime) {
+    let alloc = rt.alloc();
+    let mut told = input(alloc, DEEP);
+    record(&mut told, 5, 0, &in_set(1), b"");
+    record(&mut told, 5, 0, GAP, b"");
+    record(&mut told, 5, 0, &data(3), &beat(3)[20..]);
+    let (status, _, out) = run(alloc, told, empty(alloc));
+    assert!(rt; matches!(status, Status::Done));
+    assert!(rt; out.written().as_slice() == ack(5, 1, 3, 4, 1).as_slice());
+}
+
+#[test]
+fn an_open_set_outlives_the_run(rt: HostRuntime) {
+    let alloc = rt.alloc();
+    let mut told = input(alloc, DEEP_READ);
+    record(&mut told, 5, 0, &in_set(1), b"");
+    record(&mut told, 5, 0, &in_set(2), b"");
+    let (status, disk, out) = run(alloc, told, empty(alloc));
+    assert!(rt; matches!(status, Status::Done) && out.written().len() == 0);
+    let mut told = input(alloc, DEEP_READ);
+    record(&mut told, 6, 0, &data(3), b"");
+    record(&mut told, 7, 1, ASK_ALL, b"");
+    let (status, _, out) = run(alloc, told, disk);
+    let written = out.written().as_slice();
+    assert!(rt; matches!(status, Status::Done));
+    // The two of the set have its mark.
+    assert!(rt; written.len() == 162 + 162 + 150 + 90 + 82);
+    let (first, rest) = written.split_at(162);
+    let (second, rest) = rest.split_at(162);
+    let (third, rest) = rest.split_at(150);
+    assert!(rt; first[33] == 2 && first[82] == 1 && first[130] == 1);
+    assert!(rt; second[33] == 2 && second[82] == 2 && second[130] == 2);
+    // The marker has no original.
+    assert!(rt; rest[33] == 2 && rest[70] == 4);
+    assert!(rt; third == replayed(3, 6).as_slice());
+}
+
+#[test]
 fn a_break_ends_a_run_behind_its_answers(rt: HostRuntime) {
     let alloc = rt.alloc();
     let mut told = input(alloc, TRANSIENT);
@@ -172,7 +251,7 @@ fn a_late_reader_is_replayed_what_it_asks_for(rt: HostRuntime) {
     let written = out.written().as_slice();
     assert!(rt; written.len() == 78 + 150 + 82);
     let (replay, _) = written.split_at(78).1.split_at(150);
-    assert!(rt; replay == REPLAYED);
+    assert!(rt; replay == REPLAYED.as_slice());
 }
 
 #[test]
