@@ -6,3 +6,5 @@ mod reply;
 mod saying;
 mod session;
 mod sheet;
+#[cfg(test)]
+mod tests;
