@@ -25,6 +25,8 @@ mod service;
 mod session;
 mod sheet;
 mod storing;
+#[cfg(test)]
+mod tests;
 
 use crate::input::plan::open_plan;
 use crate::input::prefix::own_prefix;
