@@ -195,6 +195,20 @@ pub record RunsPlan (known : Option (List ℕ)) (s : Status) (tells : Type 0) (w
 abbrev pub Reruns : {R : Type 0} → Option (List ℕ) → Status → Type 0 → R → R → World → World → Type 0
 Reruns known s tells old new w v = ReadsNoPlan known s old new ⊎ RunsPlan known s tells w v
 
+-- Each status has its cause: with the status 0 the input was read to its end, and a fault is that of an object whose count of
+-- faults rose.
+pub record HasCauses (s : Status) (left : Option (List ℕ)) (reads reads_now writes writes_now disks disks_now : ℕ) : Type 0 where
+  pub done : s ≡ Done → IsAtEnd left
+  pub read : s ≡ ReadFault → Rose reads reads_now
+  pub write : s ≡ WriteFault → Rose writes writes_now
+  pub disk : s ≡ DiskFault → Rose disks disks_now
+
+-- no count rose
+pub record NoneRose (reads reads_now writes writes_now disks disks_now : ℕ) : Type 0 where
+  pub read : Rose reads reads_now → ⊥
+  pub write : Rose writes writes_now → ⊥
+  pub disk : Rose disks disks_now → ⊥
+
 -- With this status a run ends where the input is the text of a plan and a capture, and no call failed.
 abbrev pub IsComplete : Status → Type 0
 IsComplete Done = Unit {0}
