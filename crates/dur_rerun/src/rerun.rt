@@ -174,7 +174,7 @@ pub fn rerun<S: Source, R: Rig>(alloc: Global, input: &mut S, rig: R) -> Ran<R>
         (R.sink_faults rig) (R.sink_faults result.rig) (R.disk_faults rig) (R.disk_faults result.rig) }
     ensures complete { (bytes : List ℕ) → S.left input.old ≡ Some bytes → IsWholeInput bytes
         → NoneRose (S.faults input.old) (S.faults input.new) (R.sink_faults rig) (R.sink_faults result.rig)
-            (R.disk_faults rig) (R.disk_faults result.rig)
+        (R.disk_faults rig) (R.disk_faults result.rig)
         → IsComplete result.status }
 {
     match open_plan(alloc, input) {

@@ -1,14 +1,12 @@
 -- What the command `rerun` does, by its status.
-use Rattle.std.specs.Prelude.{◌≡◌, ◌⊎◌, ℕ, ◌+◌, ◌≤◌, List, [], ◌∷◌, ◌++◌, drop, length, true, Option, Some, IfSome, Ok, Err}
+use Rattle.std.specs.Prelude.{◌≡◌, ◌⊎◌, ℕ, ◌+◌, ◌≤◌, List, [], ◌++◌, drop, true, Option, Some, IfSome}
 use Rattle.std.specs.Io.KnownBytes.{IsAtEnd}
-use Rattle.std.specs.declared.result.Result.{Result}
 use Rattle.dur_capture.specs.declared.record.Record.{Record}
 use Rattle.dur_capture.specs.declared.fault.CapFault.{CapFault}
 use Rattle.dur_capture.specs.Feeding.{Feeding, Breaks}
 use Rattle.dur_capture.specs.Whole.{Feeds, CaptureWithin}
 use Rattle.dur_outside.specs.Causes.{Rose}
 use Rattle.dur_outside.specs.World.{Image, World, Leaves}
-use Rattle.dur_qos.specs.declared.fault.PlanKind.TheVariants as kind
 use Rattle.dur_qos.specs.declared.plan.Plan.{Plan as PlanOf}
 use Rattle.dur_qos.specs.Text.{PlanText}
 use Rattle.dur_view.specs.declared.data.View.{View}
@@ -22,7 +20,7 @@ use Rattle.dur_journal.specs.Journals.{OpenAnswers, OpenLeaves, Untouched}
 use Rattle.dur_hub.specs.declared.reply.Ack.{Ack}
 use Rattle.dur_hub.specs.Runs.{Run, opening}
 use Rattle.dur_rerun.specs.declared.status.Status.{Status}
-use Rattle.dur_rerun.specs.declared.status.Status.TheVariants.{Done, Usage, OutOfMemory, Input, ReadFault, WriteFault, DiskFault, Plan, NotAJournal, PlanDiffers, Full, Worn}
+use Rattle.dur_rerun.specs.declared.status.Status.TheVariants.{Done, OutOfMemory, Input, ReadFault, WriteFault, DiskFault, NotAJournal, PlanDiffers, Full, Worn}
 use Rattle.dur_rerun.specs.Input.Breaks.{place_at as place_of, EndsPlan, StopsPlan}
 use Rattle.dur_rerun.specs.Input.Prefix.{own_prefix}
 use Rattle.dur_rerun.specs.Rerun.Courses.{Course, IsNext, place_at}
