@@ -3,7 +3,6 @@ use Rattle.std.proofs.Common.{◌≡◌, ℕ, max, List, [], ◌∷◌, ◌++◌
 use Rattle.std.proofs.lemmas.List.{length-map}
 use Rattle.dur_base.specs.declared.fact.Fact.{Fact}
 use Rattle.dur_capture.specs.declared.record.Record.{Record}
-use Rattle.dur_qos.specs.declared.plan.Plan.{Plan}
 use Rattle.rtps_message.specs.declared.heard.Heard.{Heard}
 use Rattle.rtps_message.specs.Messages.{Hears}
 use Rattle.rtps_message.proofs.Once.{hears_once}
@@ -82,7 +81,7 @@ bring_more own [] (f ∷ es) r e all one = absurd all
 bring_more own (x ∷ rs) [] r e all one = absurd all
 bring_more own (x ∷ rs) (f ∷ es) r e all one = (all.0, bring_more own rs es r e all.1 one)
 
-plan_steps : (r : Run) (ss : List Step) → (after_steps r ss).plan ≡ r.plan
+pub plan_steps : (r : Run) (ss : List Step) → (after_steps r ss).plan ≡ r.plan
 plan_steps r [] = refl
 plan_steps r (s ∷ ss) = plan_steps (after_step r s) ss
 

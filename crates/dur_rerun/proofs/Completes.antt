@@ -1,5 +1,5 @@
 -- A run over a whole input in which no call fails is complete.
-use Rattle.std.proofs.Common.{◌≡◌, ◌⊎◌, inl, inr, ⊎_elim, ℕ, List, drop, Option, Some, refl, sym, ap, subst}
+use Rattle.std.proofs.Common.{◌≡◌, ◌⊎◌, inl, inr, ℕ, List, Option, Some, refl, sym, subst}
 use Rattle.std.specs.Prelude.{IfSome}
 use Rattle.dur_capture.specs.declared.record.Record.{Record}
 use Rattle.dur_outside.specs.World.{World}
@@ -10,7 +10,7 @@ use Rattle.dur_rerun.specs.declared.status.Status.{Status}
 use Rattle.dur_rerun.specs.declared.status.Status.TheVariants.{Done, Usage, OutOfMemory, Input, ReadFault, WriteFault, Plan, DiskFault, NotAJournal, PlanDiffers, Full, Worn}
 use Rattle.dur_rerun.specs.Input.Breaks.{EndsPlan, StopsPlan}
 use Rattle.dur_rerun.specs.Input.Whole.{IsWholeInput}
-use Rattle.dur_rerun.specs.Rerun.Answer.{EndsCourse, IsComplete, OpensNot, ReadsBehind, Reruns, RunsOn, RunsPlan, open_status}
+use Rattle.dur_rerun.specs.Rerun.Answer.{EndsCourse, IsComplete, OpensNot, ReadsBehind, Reruns, RunsOn, open_status}
 use Rattle.dur_rerun.proofs.OneInput.{whole_or_break, whole_or_plan_break}
 
 -- faults come only where the counts rose, and they did not

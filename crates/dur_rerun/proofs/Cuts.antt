@@ -1,14 +1,13 @@
 -- What stands for a history, and what follows it.
-use Rattle.std.proofs.Common.{◌≡◌, ◌⊎◌, inl, inr, ℕ, ◌+◌, ◌≤◌, List, [], ◌∷◌, ◌++◌, length, take, drop, refl, sym, ap, subst, ◌∙◌, Bool, true, false, cond, arith, append-nil, append_assoc, take-append-drop, ⊎_elim}
+use Rattle.std.proofs.Common.{◌≡◌, inl, inr, ℕ, ◌+◌, ◌≤◌, List, [], ◌∷◌, ◌++◌, length, take, drop, refl, sym, ap, subst, ◌∙◌, Bool, true, false, cond, arith, append-nil, append_assoc, take-append-drop, ⊎_elim}
 use Rattle.std.proofs.lemmas.List.{take_all, drop-drop, drop_all, take-append-le, drop-append-le}
 use Rattle.std.proofs.Math.Seq.{take-add}
-use Rattle.std.specs.Prelude.{if◌then◌else◌}
 use Rattle.dur_base.specs.declared.entry.Entry.{Entry}
 use Rattle.dur_view.specs.Identities.{Guid}
 use Rattle.dur_view.specs.declared.data.View.{View}
 use Rattle.dur_view.specs.Words.{stands}
 use Rattle.dur_view.specs.History.{History, Start, ◌▸◌, ◌+>◌, start, next, moment, moment_of, writer_of, AllFollow}
-use Rattle.dur_view.specs.Extend.{entries_of, extend-push, extend-entries_of}
+use Rattle.dur_view.specs.Extend.{entries_of, extend-entries_of}
 use Rattle.dur_view.specs.Sound.{StartsFrom, Continues}
 use Rattle.dur_view.specs.IsSound.{IsSound, IsHistory}
 use Rattle.dur_view.specs.View.{view}

@@ -1,5 +1,5 @@
 -- A view that a hub may be opened with.
-use Rattle.std.proofs.Common.{◌≡◌, ℕ, ◌+◌, ◌≤◌, List, [], ◌∷◌, ◌++◌, length, map, Bool, true, false, cond, refl, sym, ap, subst, ◌∙◌, not, arith, length-append}
+use Rattle.std.proofs.Common.{◌≡◌, ◌+◌, ◌≤◌, List, [], ◌∷◌, ◌++◌, length, map, Bool, true, false, cond, refl, sym, ap, subst, not, arith, length-append}
 use Rattle.std.proofs.lemmas.List.{length-map}
 use Rattle.std.specs.Prelude.{filter, is_some, All, Contains}
 use Rattle.std.specs.List.{AllByRecursion}
@@ -12,7 +12,6 @@ use Rattle.dur_qos.specs.declared.plan.WriterLine.{WriterLine}
 use Rattle.dur_qos.specs.Good.{GoodPlan}
 use Rattle.dur_qos.specs.Plan.{place_of}
 use Rattle.dur_view.specs.declared.data.View.{View}
-use Rattle.dur_view.specs.declared.data.KeptWriter.{KeptWriter}
 use Rattle.dur_view.specs.Words.{stands}
 use Rattle.dur_view.specs.Full.{new_writer, more_topics, more_writers, full}
 use Rattle.dur_view.specs.IsSound.{IsSound}

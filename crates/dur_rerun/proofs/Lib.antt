@@ -1,4 +1,5 @@
 pub mod Admitting
+pub mod BatchRuns
 pub mod Batches
 pub mod Checks
 pub mod Commands

@@ -1,11 +1,10 @@
 -- What a hub lists behind a plan is the text for the whole input.
-use Rattle.std.proofs.Common.{◌≡◌, ◌≢◌, ℕ, ◌+◌, ◌<◌, ◌≤◌, ◌^◌, max, List, [], ◌∷◌, ◌++◌, length, drop, Option, None, Result, Ok, Err, refl, sym, ap, subst, ◌∙◌, append_assoc, arith, inl, inr}
+use Rattle.std.proofs.Common.{◌≡◌, ◌≢◌, ℕ, ◌+◌, ◌<◌, ◌≤◌, ◌^◌, max, List, [], ◌∷◌, ◌++◌, length, drop, Option, None, Result, Ok, Err, refl, sym, ap, subst, ◌∙◌, append_assoc, arith}
 use Rattle.std.specs.Prelude.{IfSome, OnOk, OnErr, IfErr}
 use Rattle.std.specs.Io.KnownBytes.{Consumes, IsAtEnd}
 use Rattle.dur_outside.specs.World.{Image}
 use Rattle.dur_outside.specs.Causes.{Rose}
 use Rattle.dur_capture.specs.Feeding.{Feeding}
-use Rattle.dur_capture.specs.Whole.{BreaksAt}
 use Rattle.dur_qos.specs.declared.plan.Plan.{Plan as PlanOf}
 use Rattle.dur_qos.specs.declared.plan.Topic.{Topic}
 use Rattle.dur_qos.specs.Good.{GoodPlan}
@@ -13,7 +12,6 @@ use Rattle.dur_qos.specs.Text.{PlanText}
 use Rattle.dur_qos.proofs.Goods.{text_good}
 use Rattle.dur_view.specs.declared.change.Change.{Change}
 use Rattle.dur_view.specs.Full.{blank}
-use Rattle.dur_hub.specs.declared.event.Event.{Event}
 use Rattle.dur_hub.specs.declared.hub.Hub.{Hub}
 use Rattle.dur_hub.specs.Runs.{Run, opening}
 use Rattle.dur_hub.specs.Legal.{run_after}
@@ -33,7 +31,7 @@ use Rattle.dur_rerun.specs.List.Listing.{latest, lines_from, list_text, IsListin
 use Rattle.dur_rerun.specs.List.History.{TakesWhole, StopsRest}
 use Rattle.dur_rerun.specs.List.Answer.{Lists, ListAnswers, ListEnds, EndsUnwritten}
 use Rattle.dur_rerun.proofs.Admitting.{calls_keep}
-use Rattle.dur_rerun.proofs.Commands.{if_some, if_any, all_out}
+use Rattle.dur_rerun.proofs.Commands.{if_some, all_out}
 use Rattle.dur_rerun.proofs.Whole.{plan_more, behind_plan, behind}
 
 -- ---- the text of a hub

@@ -1,5 +1,5 @@
 -- What a call admits is of the moment that it uses, and so no earlier than any before.
-use Rattle.std.proofs.Common.{◌≡◌, ℕ, ◌+◌, ◌≤◌, List, [], ◌∷◌, ◌++◌, length, take, map, max, Option, Some, None, refl, sym, ap, subst, ◌∙◌, arith}
+use Rattle.std.proofs.Common.{◌≡◌, ℕ, ◌≤◌, List, [], ◌∷◌, ◌++◌, length, take, map, Option, Some, None, refl, sym, ap, subst, ◌∙◌, arith}
 use Rattle.std.specs.Prelude.{Ok, Err}
 use Rattle.dur_base.specs.declared.entry.Entry.{Entry}
 use Rattle.dur_base.specs.declared.entry.Entry.TheVariants.{Took, Skip, Lost}

@@ -1,5 +1,5 @@
 -- The records that were read of an input.
-use Rattle.std.proofs.Common.{◌≡◌, ℕ, List, [], ◌∷◌, ◌++◌, Bool, true, false, Option, Some, None, refl, sym, ap, subst, ◌∙◌, append_assoc, ◌⊎◌, inl, inr}
+use Rattle.std.proofs.Common.{◌≡◌, ℕ, List, ◌++◌, Bool, true, false, Option, Some, None, refl, sym, subst, append_assoc, ◌⊎◌, inl, inr}
 use Rattle.std.specs.Prelude.{IfSome, IfErr, Ok, Err}
 use Rattle.std.specs.declared.result.Result.{Result}
 use Rattle.dur_journal.specs.declared.state.Journal.{Journal}
@@ -18,14 +18,11 @@ use Rattle.dur_rerun.specs.Input.Records.{given, Ends, BreaksOff, StopsRecords}
 use Rattle.dur_rerun.specs.Rerun.Answer.{BreaksBehind, ReadsAs}
 use Rattle.dur_rerun.specs.Rerun.Services.{EndsHandling, ended}
 use Rattle.dur_rerun.specs.Rerun.Stores.{EndsStoring}
-use Rattle.dur_rerun.proofs.Commands.{if_some}
 use Rattle.dur_rerun.proofs.Rest.{told, all_told}
+use Rattle.dur_rerun.proofs.Taking.{feeds_given, no_place}
 
 abbrev Some_first : ℕ → List Record → List ℕ → Type 0
 Some_first before rs octets = (f : Feeding) × Feeds before octets rs f
-
-feeds_given : (before : ℕ) (octets seen piece : List ℕ) (rs : List Record) (f : Feeding) → Feeds before (octets ++ seen) rs f → Feeds before (octets ++ (seen ++ piece)) rs (given piece f)
-feeds_given before octets seen piece rs f feeds = subst (λ (t : List ℕ). Feeds before t rs (given piece f)) (append_assoc octets seen piece) (takes_octets before (octets ++ seen) rs f piece feeds)
 
 -- what was read of the octets seen was read of all
 pub first_told : (known now : Option (List ℕ)) (before : ℕ) (octets seen : List ℕ) (rs : List Record) (f : Feeding) → Consumes known now seen → Feeds before (octets ++ seen) rs f → IfSome known (λ tail. Some_first before rs (octets ++ tail))
@@ -46,9 +43,6 @@ ended_told known mid now before octets seen rs f g consumed feeds e =
     first_told known now before octets (seen ++ e.seen) rs (given e.seen f) (Consumes-trans known mid now seen e.seen consumed e.consumed) (feeds_given before octets seen e.seen rs f feeds)
 
 -- ---- where the capture breaks off
-
-no_place : (e : CapFault) (place : ℕ) → place_at e ≡ Some place → e ≡ OutOfMemory → ⊥
-no_place e place named memory = let none : None ≡ Some place = sym (ap place_at memory) ∙ named in absurd cc
 
 behind_is : (before : ℕ) (octets : List ℕ) (e : CapFault) (place : ℕ) (rs : List Record) (f : Feeding) → place_at e ≡ Some place → Feeds before octets rs f → (e ≡ OutOfMemory) ⊎ Breaks f true e → BreaksBehind before octets rs e
 behind_is before octets e place rs f named feeds b = elim b [

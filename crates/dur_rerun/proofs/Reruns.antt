@@ -1,5 +1,5 @@
 -- The whole command: the opening, and then the records.
-use Rattle.std.proofs.Common.{◌≡◌, ◌⊎◌, inl, inr, ⊎_elim, ℕ, ◌+◌, ◌≤◌, ◌%◌, ◌^◌, List, [], ◌++◌, length, drop, take, Option, Some, None, refl, sym, ap, subst, ◌∙◌, arith}
+use Rattle.std.proofs.Common.{◌≡◌, ◌⊎◌, inl, inr, ⊎_elim, ℕ, List, [], ◌++◌, take, Option, refl, sym, ap, subst, ◌∙◌}
 use Rattle.std.specs.Prelude.{IfSome}
 use Rattle.std.specs.Io.KnownBytes.{Consumes}
 use Rattle.dur_capture.specs.declared.record.Record.{Record}
@@ -9,22 +9,21 @@ use Rattle.dur_qos.specs.declared.plan.Plan.{Plan}
 use Rattle.dur_qos.specs.Good.{GoodPlan}
 use Rattle.dur_qos.specs.Text.{PlanText}
 use Rattle.dur_view.specs.declared.data.View.{View}
-use Rattle.dur_view.specs.History.{History, Start, start}
+use Rattle.dur_view.specs.History.{Start}
 use Rattle.dur_view.specs.Full.{full}
-use Rattle.dur_view.specs.Persistent.{persistent, persistent_view}
+use Rattle.dur_view.specs.Persistent.{persistent_view}
 use Rattle.dur_view.proofs.PersistentFull.{persistent-full}
 use Rattle.dur_journal.specs.declared.state.Journal.{Journal}
 use Rattle.dur_journal.specs.declared.state.Opened.{Opened as Found}
-use Rattle.dur_journal.specs.Histories.{IsWhole, view_of}
-use Rattle.dur_journal.specs.Kept.{Kept, IsOneOf, renewed}
+use Rattle.dur_journal.specs.Histories.{IsWhole}
+use Rattle.dur_journal.specs.Kept.{Kept, renewed}
 use Rattle.dur_journal.specs.Opening.{IsKeptView}
 use Rattle.dur_journal.specs.Journals.{OpenLeaves, Opens as OpensAs, Stands as StandsFor}
-use Rattle.dur_hub.specs.GoodRuns.{IsGoodRun}
 use Rattle.dur_hub.specs.Runs.{Run, opening}
 use Rattle.dur_rerun.specs.declared.input.plan.Opened.{Opened}
 use Rattle.dur_rerun.specs.declared.rerun.service.Service.{Service}
 use Rattle.dur_rerun.specs.declared.status.Status.{Status}
-use Rattle.dur_rerun.specs.declared.status.Status.TheVariants.{Done, OutOfMemory}
+use Rattle.dur_rerun.specs.declared.status.Status.TheVariants.{OutOfMemory}
 use Rattle.dur_rerun.specs.Input.Plan.{Opens}
 use Rattle.dur_rerun.specs.Input.Prefix.{own_prefix}
 use Rattle.dur_rerun.specs.Rerun.Answer.{EndsCourse, IsOpenedFrom, OpensNot, ReadsAs, ReadsBehind, RerunLeaves, RunsOver, RunsOn, RunsPlan}

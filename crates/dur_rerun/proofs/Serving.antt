@@ -1,5 +1,5 @@
 -- One record: it is received, what it brings is stored, and then it is answered.
-use Rattle.std.proofs.Common.{◌≡◌, ◌⊎◌, inl, inr, ⊎_elim, ℕ, ◌+◌, ◌≤◌, ◌<◌, ◌%◌, ◌^◌, List, [], ◌∷◌, ◌++◌, length, take, Bool, true, false, refl, sym, ap, subst, ◌∙◌, arith, append-nil, append_assoc}
+use Rattle.std.proofs.Common.{◌≡◌, inl, inr, ℕ, ◌≤◌, ◌%◌, ◌^◌, List, [], ◌∷◌, ◌++◌, length, take, true, refl, sym, ap, subst, ◌∙◌, arith, append-nil, append_assoc}
 use Rattle.std.specs.Prelude.{Ok, Err, Some, None}
 use Rattle.std.specs.declared.result.Result.{Result}
 use Rattle.std.specs.declared.option.Option.{Option}
@@ -7,13 +7,12 @@ use Rattle.dur_base.specs.declared.fact.Fact.{Fact}
 use Rattle.dur_capture.specs.declared.record.Record.{Record}
 use Rattle.dur_outside.specs.declared.values.FileId.{FileId}
 use Rattle.dur_outside.specs.declared.values.FileId.TheVariants.{Zero, One}
-use Rattle.dur_outside.specs.World.{Image, World, IsSound, Leaves}
-use Rattle.dur_outside.proofs.Runs.{still, joins, weaker}
+use Rattle.dur_outside.specs.World.{Image, World, Leaves}
+use Rattle.dur_outside.proofs.Runs.{weaker}
 use Rattle.dur_qos.specs.declared.plan.Plan.{Plan}
-use Rattle.dur_view.specs.declared.data.View.{View}
-use Rattle.dur_view.specs.History.{History, ◌+>◌, start, next}
+use Rattle.dur_view.specs.History.{History, start, next}
 use Rattle.dur_view.specs.IsSound.{IsHistory}
-use Rattle.dur_view.specs.Persistent.{persistent, persistent_view}
+use Rattle.dur_view.specs.Persistent.{persistent_view}
 use Rattle.dur_view.specs.Stored.{stored, durable_part, is_stored}
 use Rattle.dur_journal.specs.Histories.{IsWhole as LacksNothing}
 use Rattle.dur_journal.specs.declared.state.Journal.{Journal}
@@ -23,7 +22,6 @@ use Rattle.dur_qos.specs.Good.{GoodPlan}
 use Rattle.dur_journal.proofs.Standing.{stands_keeps}
 use Rattle.dur_hub.specs.declared.event.Event.{Event}
 use Rattle.dur_hub.specs.declared.event.Event.TheVariants as call
-use Rattle.dur_hub.specs.declared.event.Step.{Step}
 use Rattle.dur_hub.specs.declared.hub.Hub.{Hub}
 use Rattle.dur_hub.specs.declared.reply.Ack.{Ack}
 use Rattle.dur_hub.specs.declared.reply.SnapFault.TheVariants as fault
@@ -33,14 +31,12 @@ use Rattle.dur_hub.specs.Hubs.{Stands, Adds}
 use Rattle.dur_hub.specs.Leases.{after_lease, at_moment}
 use Rattle.dur_hub.specs.Legal.{LegalAt, after, Legal, run_after}
 use Rattle.dur_hub.specs.Runs.{Run}
-use Rattle.dur_hub.specs.Steps.{after_step, after_steps}
 use Rattle.dur_hub.proofs.Covers.{counts_steps, law_durable}
 use Rattle.dur_hub.proofs.Stored.{durable_is, next_longer}
 use Rattle.dur_rerun.specs.Admission.{IsWhole, Brings, Admitted}
 use Rattle.dur_rerun.specs.Saying.{wrote}
-use Rattle.dur_rerun.specs.Rerun.Kept.{IsCutOf, IsBehind}
 use Rattle.dur_rerun.specs.declared.rerun.replays.Replay.{Replay}
-use Rattle.dur_rerun.specs.Rerun.Courses.{Receives, IsMade, RecordCalls, place_at, answered_at}
+use Rattle.dur_rerun.specs.Rerun.Courses.{Receives, IsMade, place_at, answered_at}
 use Rattle.dur_rerun.specs.Rerun.Crashes.{IsHandling}
 use Rattle.dur_rerun.specs.Rerun.Saying.{IsFront, Says}
 use Rattle.dur_rerun.specs.Rerun.Steps.{AreSnapshots, IsSnapshot, Leads, Wherever}
@@ -55,13 +51,10 @@ use Rattle.dur_rerun.specs.declared.rerun.nacks.Nack.{Nack}
 use Rattle.dur_hub.specs.declared.reply.Received.{Received}
 use Rattle.dur_rerun.proofs.Cuts.{start_extend, start_persistent, behind_of}
 use Rattle.dur_rerun.proofs.Batches.{run_more, legal_last, acks_append}
+use Rattle.dur_rerun.proofs.Admitting.{plan_steps}
 use Rattle.dur_rerun.proofs.Moments.{IsLater, later_call, later_calls, behind_later}
 
 -- ---- what calls leave as it is
-
-plan_steps : (r : Run) (ss : List Step) → (after_steps r ss).plan ≡ r.plan
-plan_steps r [] = refl
-plan_steps r (s ∷ ss) = plan_steps (after_step r s) ss
 
 plan_call : (r : Run) (e : Event) → (after r e).plan ≡ r.plan
 plan_call r (call.Receive m lost steps cut stopped) = plan_steps (after_lease (at_moment m r) lost) (steps ++ cut)

@@ -1,5 +1,5 @@
 -- Acknowledgements, and then what ACKNACKs call for.
-use Rattle.std.proofs.Common.{◌≡◌, ◌⊎◌, inl, inr, ⊎_elim, ℕ, List, [], ◌++◌, map, take, length, refl, sym, ◌∙◌, ap, append-nil, Result, Ok, Err, arith}
+use Rattle.std.proofs.Common.{◌≡◌, ◌⊎◌, inl, inr, ⊎_elim, ℕ, List, [], ◌∷◌, ◌++◌, map, take, length, refl, sym, ◌∙◌, ap, append-nil, Result, Ok, Err, arith}
 use Rattle.std.proofs.lemmas.List.{take_all}
 use Rattle.dur_outside.specs.World.{World}
 use Rattle.dur_journal.specs.declared.state.Journal.{Journal}
@@ -12,7 +12,7 @@ use Rattle.dur_hub.specs.Legal.{run_after}
 use Rattle.dur_hub.specs.Hubs.{Stands}
 use Rattle.dur_rerun.specs.declared.rerun.nacks.Nack.{Nack}
 use Rattle.dur_rerun.specs.declared.rerun.replays.Replay.{Replay}
-use Rattle.dur_rerun.specs.Rerun.Replies.{records_text, ack_message}
+use Rattle.dur_rerun.specs.Rerun.Replies.{Place, Replies, BeginsReplies, NacksCall, NacksBegin, records_text, ack_message}
 use Rattle.dur_rerun.specs.Rerun.Reply.{Replied}
 use Rattle.dur_rerun.specs.Rerun.Sending.{GoOut}
 use Rattle.dur_rerun.specs.Rerun.Steps.{AreAcks, BeginAcks, AreReplied, BeginNacks}
@@ -73,4 +73,22 @@ module _ (plan : Plan) (own : List ℕ) (acks : List Ack) (ns : List Nack) (hub 
                 ∙ ap (λ (t : ℕ). records_text t port (map (ack_message own) (take m acks) ++ zs)) (used start log st);
           };
       says = went.says;
+    }
+
+-- ---- all messages are the first ones
+
+nacks_begin : (own : List ℕ) (ns : List Nack) (before after : Place) (xs : List (List ℕ)) → NacksCall own ns before xs after → NacksBegin own ns before xs
+nacks_begin own [] before after xs (none, same) = none
+nacks_begin own (n ∷ ns) before after xs (now, later, mid, first, rest, is) = inr (inr (now, later, mid, first, nacks_begin own ns mid after later rest, is))
+
+pub whole_begins : (own : List ℕ) (port : ℕ) (acks : List Ack) (ns : List Nack) (before after : Place) (text : List ℕ) → Replies own port acks ns before text after
+    → BeginsReplies own port acks ns before text
+whole_begins own port acks ns before after text r =
+    let whole : take (length acks) acks ≡ acks = take_all (length acks) acks (omega arith) in
+    record {
+      count = length acks;
+      messages = r.messages;
+      first = inr (whole, nacks_begin own ns before after r.messages r.calls);
+      text_is = r.text_is
+          ∙ ap (λ (l : List Ack). records_text before.run.moment port (map (ack_message own) l ++ r.messages)) (sym whole);
     }

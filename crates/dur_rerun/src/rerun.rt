@@ -8,7 +8,7 @@ ghost use Rattle.dur_qos.specs.Good.{GoodPlan};
 ghost use Rattle.dur_journal.specs.Opening.{IsKeptView};
 ghost use Rattle.dur_hub.specs.Runs.{opening};
 ghost use Rattle.dur_rerun.specs.Input.Prefix.{own_prefix};
-ghost use Rattle.dur_rerun.specs.Rerun.Answer.{EndsCourse, OpensNot, ReadsAs, Reruns, RunsOn, IsComplete, ServesOn, open_status};
+ghost use Rattle.dur_rerun.specs.Rerun.Answer.{EndsCourse, OpensNot, ReadsAs, Reruns, RunsOn, HasCauses, IsComplete, NoneRose, ServesOn, open_status};
 ghost use Rattle.dur_rerun.specs.Input.Whole.{IsWholeInput};
 ghost use Rattle.dur_rerun.specs.Rerun.Services.{Begins, IsFoundFor};
 
@@ -18,6 +18,8 @@ mod laws;
 pub(crate) mod nacks;
 mod replays;
 mod reply;
+#[cfg(test)]
+mod runs;
 mod saying;
 mod service;
 mod session;
@@ -156,22 +158,23 @@ fn run_plan<S: Source, R: Rig>(
     }
 }
 
-/// The command `rerun`: reads a plan, opens the journal of the rig's disk over it, and then handles the records of the
-/// capture behind the plan, one after the other. What a record brings to persistent topics is stored first; then its
-/// acknowledgements go out, and what its ACKNACKs ask replays for (DDSI-RTPS 8.3.8, 8.7.9), each message as a record of a
-/// capture with the moment that was used last and the record's port.
+/// The command `rerun`: reads a plan, opens the journal of the rig's disk over it, and then handles
+/// the records of the capture behind the plan, one after the other. What a record brings to persistent
+/// topics is stored first; then its acknowledgements go out, and what its ACKNACKs ask replays for
+/// (DDSI-RTPS 8.3.8, 8.7.9), each message as a record of a capture with the moment that was used last and
+/// the record's port.
 ///
-/// A fault of the plan comes before anything else; then what the opening answers; and then, record by record, a read fault, a
-/// break of the capture, want of memory, a disk fault, a view that is too long or no generation left, and a write fault. The
-/// first of them ends the run.
+/// A fault of the plan comes before anything else; then what the opening answers; and then, record by
+/// record, a read fault, a break of the capture, want of memory, a disk fault, a view that is too long or
+/// no generation left, and a write fault. The first of them ends the run.
 pub fn rerun<S: Source, R: Rig>(alloc: Global, input: &mut S, rig: R) -> Ran<R>
-    ensures runs { Reruns (S.left input.old) result.status R.tells rig result.rig (R.world rig) (R.world result.rig) }
-    ensures end { result.status ≡ Status.Done → IsAtEnd (S.left input.new) }
-    ensures read { result.status ≡ Status.ReadFault → Rose (S.faults input.old) (S.faults input.new) }
-    ensures write { result.status ≡ Status.WriteFault → Rose (R.sink_faults rig) (R.sink_faults result.rig) }
-    ensures disk { result.status ≡ Status.DiskFault → Rose (R.disk_faults rig) (R.disk_faults result.rig) }
-    ensures complete { (bytes : List ℕ) → S.left input.old ≡ Some bytes → IsWholeInput bytes → (Rose (S.faults input.old) (S.faults input.new) → ⊥)
-        → (Rose (R.sink_faults rig) (R.sink_faults result.rig) → ⊥) → (Rose (R.disk_faults rig) (R.disk_faults result.rig) → ⊥)
+    ensures runs { Reruns (S.left input.old) result.status R.tells rig result.rig
+        (R.world rig) (R.world result.rig) }
+    ensures causes { HasCauses result.status (S.left input.new) (S.faults input.old) (S.faults input.new)
+        (R.sink_faults rig) (R.sink_faults result.rig) (R.disk_faults rig) (R.disk_faults result.rig) }
+    ensures complete { (bytes : List ℕ) → S.left input.old ≡ Some bytes → IsWholeInput bytes
+        → NoneRose (S.faults input.old) (S.faults input.new) (R.sink_faults rig) (R.sink_faults result.rig)
+        (R.disk_faults rig) (R.disk_faults result.rig)
         → IsComplete result.status }
 {
     match open_plan(alloc, input) {

@@ -1,14 +1,12 @@
 -- What the command `rerun` does, by its status.
-use Rattle.std.specs.Prelude.{◌≡◌, ◌⊎◌, ℕ, ◌+◌, ◌≤◌, List, [], ◌∷◌, ◌++◌, drop, length, true, Option, Some, IfSome, Ok, Err}
+use Rattle.std.specs.Prelude.{◌≡◌, ◌⊎◌, ℕ, ◌+◌, ◌≤◌, List, [], ◌++◌, drop, true, Option, Some, IfSome}
 use Rattle.std.specs.Io.KnownBytes.{IsAtEnd}
-use Rattle.std.specs.declared.result.Result.{Result}
 use Rattle.dur_capture.specs.declared.record.Record.{Record}
 use Rattle.dur_capture.specs.declared.fault.CapFault.{CapFault}
 use Rattle.dur_capture.specs.Feeding.{Feeding, Breaks}
 use Rattle.dur_capture.specs.Whole.{Feeds, CaptureWithin}
 use Rattle.dur_outside.specs.Causes.{Rose}
 use Rattle.dur_outside.specs.World.{Image, World, Leaves}
-use Rattle.dur_qos.specs.declared.fault.PlanKind.TheVariants as kind
 use Rattle.dur_qos.specs.declared.plan.Plan.{Plan as PlanOf}
 use Rattle.dur_qos.specs.Text.{PlanText}
 use Rattle.dur_view.specs.declared.data.View.{View}
@@ -22,7 +20,7 @@ use Rattle.dur_journal.specs.Journals.{OpenAnswers, OpenLeaves, Untouched}
 use Rattle.dur_hub.specs.declared.reply.Ack.{Ack}
 use Rattle.dur_hub.specs.Runs.{Run, opening}
 use Rattle.dur_rerun.specs.declared.status.Status.{Status}
-use Rattle.dur_rerun.specs.declared.status.Status.TheVariants.{Done, Usage, OutOfMemory, Input, ReadFault, WriteFault, DiskFault, Plan, NotAJournal, PlanDiffers, Full, Worn}
+use Rattle.dur_rerun.specs.declared.status.Status.TheVariants.{Done, OutOfMemory, Input, ReadFault, WriteFault, DiskFault, NotAJournal, PlanDiffers, Full, Worn}
 use Rattle.dur_rerun.specs.Input.Breaks.{place_at as place_of, EndsPlan, StopsPlan}
 use Rattle.dur_rerun.specs.Input.Prefix.{own_prefix}
 use Rattle.dur_rerun.specs.Rerun.Courses.{Course, IsNext, place_at}
@@ -194,6 +192,20 @@ pub record RunsPlan (known : Option (List ℕ)) (s : Status) (tells : Type 0) (w
 -- What `rerun` does.
 abbrev pub Reruns : {R : Type 0} → Option (List ℕ) → Status → Type 0 → R → R → World → World → Type 0
 Reruns known s tells old new w v = ReadsNoPlan known s old new ⊎ RunsPlan known s tells w v
+
+-- Each status has its cause: with the status 0 the input was read to its end, and a fault is that of an object whose count of
+-- faults rose.
+pub record HasCauses (s : Status) (left : Option (List ℕ)) (reads reads_now writes writes_now disks disks_now : ℕ) : Type 0 where
+  pub done : s ≡ Done → IsAtEnd left
+  pub read : s ≡ ReadFault → Rose reads reads_now
+  pub write : s ≡ WriteFault → Rose writes writes_now
+  pub disk : s ≡ DiskFault → Rose disks disks_now
+
+-- no count rose
+pub record NoneRose (reads reads_now writes writes_now disks disks_now : ℕ) : Type 0 where
+  pub read : Rose reads reads_now → ⊥
+  pub write : Rose writes writes_now → ⊥
+  pub disk : Rose disks disks_now → ⊥
 
 -- With this status a run ends where the input is the text of a plan and a capture, and no call failed.
 abbrev pub IsComplete : Status → Type 0

@@ -1,11 +1,10 @@
 -- What a crash leaves of a run over records.
-use Rattle.std.specs.Prelude.{◌≡◌, ◌⊎◌, ℕ, ◌≤◌, List, [], ◌∷◌, ◌++◌, length, take}
+use Rattle.std.specs.Prelude.{◌≡◌, ℕ, ◌≤◌, List, [], ◌++◌, length, take}
 use Rattle.dur_capture.specs.declared.record.Record.{Record}
-use Rattle.dur_outside.specs.World.{Image, World}
+use Rattle.dur_outside.specs.World.{Image}
 use Rattle.dur_qos.specs.declared.plan.Plan.{Plan}
 use Rattle.dur_view.specs.Stored.{stored, durable_part}
 use Rattle.dur_journal.specs.Kept.{Kept, Keeps}
-use Rattle.dur_journal.specs.Journals.{OpenLeaves}
 use Rattle.dur_hub.specs.declared.event.Event.{Event}
 use Rattle.dur_hub.specs.declared.reply.Ack.{Ack}
 use Rattle.dur_hub.specs.Handed.{Covered, acks_in}

@@ -71,7 +71,8 @@ fn ids_of(own: Prefix, nack: &Nack) -> Ids
     }
 }
 
-/// The session of what the hub's snapshot has for an ACKNACK's reader, or None where the hub refuses it one.
+/// The session of what the hub's snapshot has for an ACKNACK's reader, or None where the hub refuses it one. A session
+/// asks that changes can be sent, which is tested here: where they could not, that ends as want of memory does.
 fn start(
     alloc: Global,
     hub: &mut Hub,

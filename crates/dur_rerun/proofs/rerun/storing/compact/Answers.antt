@@ -1,4 +1,4 @@
-use Rattle.std.proofs.Common.{◌<◌, ◌^◌, length, subst, arith}
+use Rattle.std.proofs.Common.{subst, arith}
 use Rattle.dur_outside.specs.World.{Leaves}
 use Rattle.dur_journal.specs.Kept.{Kept, IsOneOf}
 use Rattle.dur_journal.specs.Journals.{Stands}

@@ -1,5 +1,5 @@
 use Rattle.std.proofs.Common.{arith, refl, ◌∙◌}
-use Rattle.dur_rerun.proofs.Batches.{stored_first, stored_more, left_more, ended_passes, ended_kept, fewer, settled_on, ready_on, ends_storing, fails_so}
+use Rattle.dur_rerun.proofs.BatchRuns.{stored_first, stored_more, left_more, ended_passes, ended_kept, fewer, settled_on, ready_on, fails_so}
 use Rattle.dur_rerun.proofs.rerun.storing.store_all.Goals as goal
 
 pub batches-init : goal.batches-init

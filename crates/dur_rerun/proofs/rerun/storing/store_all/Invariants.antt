@@ -2,7 +2,7 @@ use Rattle.std.proofs.Common.{◌≡◌, ◌≤◌, List}
 use Rattle.dur_hub.specs.declared.event.Event.{Event}
 use Rattle.dur_hub.specs.Runs.{Run}
 use Rattle.dur_rerun.specs.Rerun.Stores.{IsSettled, StoringSoFar}
-use Rattle.dur_rerun.proofs.Batches.{waiting}
+use Rattle.dur_rerun.proofs.BatchRuns.{waiting}
 use Rattle.dur_rerun.proofs.rerun.storing.store_all.Given as goal
 
 -- each batch so far was stored and marked
