@@ -103,9 +103,6 @@ rerun_never known s tells old new w v h is = elim h [
 pub memory_reruns : {R : Type 0} → (known left : Option (List ℕ)) (tells : Type 0) (old : R) (w : World) (reads writes disks : ℕ) → RunsRerun known left OutOfMemory tells old old w w reads reads writes writes disks disks
 memory_reruns known left tells old w reads writes disks = record {
   runs = inl (record { ends = tt; breaks = if_any known (λ input. StopsPlan input OutOfMemory) (λ input. tt); same = refl });
-  done = λ is. absurd cc;
-  read = λ is. absurd cc;
-  write = λ is. absurd cc;
-  disk = λ is. absurd cc;
-  complete = λ bytes known_is whole a b c. tt;
+  causes = record { done = λ is. absurd cc; read = λ is. absurd cc; write = λ is. absurd cc; disk = λ is. absurd cc };
+  complete = λ bytes known_is whole none. tt;
 }

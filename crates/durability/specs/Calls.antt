@@ -1,16 +1,13 @@
 -- The lines of each top call, and what each of them answers.
 use Rattle.std.specs.Prelude.{◌≡◌, ℕ, List, Some}
 use Rattle.std.specs.declared.option.Option.{Option}
-use Rattle.std.specs.Io.KnownBytes.{IsAtEnd}
-use Rattle.dur_outside.specs.Causes.{Rose}
 use Rattle.dur_outside.specs.World.{Image, World}
 use Rattle.dur_rerun.specs.declared.status.Status.{Status}
-use Rattle.dur_rerun.specs.declared.status.Status.TheVariants.{Done, ReadFault, WriteFault, DiskFault}
 use Rattle.dur_rerun.specs.Command.{GoesOut}
 use Rattle.dur_rerun.specs.Check.Answer.{CheckAnswers, HasCheckReason, IsComplete}
 use Rattle.dur_rerun.specs.Input.Whole.{IsWholeInput}
 use Rattle.dur_rerun.specs.List.Answer.{ListAnswers, ListEnds}
-use Rattle.dur_rerun.specs.Rerun.Answer.{Reruns, IsComplete as IsRerunComplete}
+use Rattle.dur_rerun.specs.Rerun.Answer.{Reruns, HasCauses, NoneRose, IsComplete as IsRerunComplete}
 use Rattle.dur_rerun.specs.Show.Answer.{ShowAnswers, ShowEnds}
 use Rattle.rel_writer.specs.LateReaders.{Late, fresh}
 use Rattle.durability.specs.declared.words.Line.{Line}
@@ -121,15 +118,11 @@ IsRerunLine words l = IsLine words l × IsRerun l
 pub record RunsRerun {R : Type 0} (known left : Option (List ℕ)) (s : Status) (tells : Type 0) (old new : R) (w v : World) (reads reads_now writes writes_now disks disks_now : ℕ) : Type 0 where
   -- what was read, what was stored and what went out; and what a crash leaves at any moment
   pub runs : Reruns known s tells old new w v
-  -- with the status 0 the input was read to its end
-  pub done : s ≡ Done → IsAtEnd left
-  -- a read, a write to the output or a call on a file failed
-  pub read : s ≡ ReadFault → Rose reads reads_now
-  pub write : s ≡ WriteFault → Rose writes writes_now
-  pub disk : s ≡ DiskFault → Rose disks disks_now
+  -- each status has its cause
+  pub causes : HasCauses s left reads reads_now writes writes_now disks disks_now
   -- where no call failed and the input is the text of a plan and a capture, the files call for the status, or memory ran out
-  pub complete : (bytes : List ℕ) → known ≡ Some bytes → IsWholeInput bytes → (Rose reads reads_now → ⊥)
-      → (Rose writes writes_now → ⊥) → (Rose disks disks_now → ⊥) → IsRerunComplete s
+  pub complete : (bytes : List ℕ) → known ≡ Some bytes → IsWholeInput bytes
+      → NoneRose reads reads_now writes writes_now disks disks_now → IsRerunComplete s
 
 -- ---- the call `late`
 
