@@ -23,6 +23,16 @@ cat examples/first/plan.txt examples/first/capture.bin | "$program" list > "$fol
 [ "$(wc -l < "$folder/out")" = 1 ] || fails "first: more or less than a line"
 says first "$(cat "$folder/out")"
 echo "first: as examples/README.md says"
+mkdir "$folder/files"
+plan=examples/restart/plan.txt
+cat "$plan" examples/restart/before.bin | "$program" rerun --dir "$folder/files" > "$folder/sent_before" || fails "restart: the first rerun failed"
+"$program" check --dir "$folder/files" > "$folder/out" || fails "restart: check failed"
+cat "$plan" "$folder/sent_before" | "$program" show > "$folder/shown" || fails "restart: what was sent first cannot be shown"
+[ "$(wc -l < "$folder/shown")" = 1 ] || fails "restart: more or less than one message was sent first"
+cat "$plan" examples/restart/after.bin | "$program" rerun --dir "$folder/files" > "$folder/sent_after" || fails "restart: the second rerun failed"
+cat "$plan" "$folder/sent_after" | "$program" show >> "$folder/out" || fails "restart: what was sent then cannot be shown"
+sed -n '/^## A restart/,/^## Real/s/^    \([fT1-5][ i].*\)/\1/p' examples/README.md | cmp - "$folder/out" || fails "restart: examples/README.md says something else"
+echo "restart: as examples/README.md says"
 if ! command -v python3 > /dev/null; then echo "tests/examples.sh: real traffic skipped, python3 is missing"; exit 0; fi
 python3 tools/capture_from_hex.py < examples/first/capture.hex | cmp - examples/first/capture.bin
 python3 tools/pcap_to_capture.py --summary examples/fastdds/capture.pcap 2> /dev/null | sed 's/^./    &/' > "$folder/summary"

@@ -32,13 +32,17 @@ def number(value):
     return struct.pack("<iI", value >> 32, value & 0xFFFFFFFF)
 
 
+def beat(value, count):
+    """A HEARTBEAT of all numbers up to this one, which asks for an answer."""
+    return struct.pack("<BBHI", 7, 1, 28, 0) + WRITER[12:] + number(1) + number(value) + struct.pack("<I", count)
+
+
 def told(value, count):
-    """A message with the DATA of a number, and a HEARTBEAT that asks for an answer."""
+    """A message with the DATA of a number, and a HEARTBEAT."""
     key = bytes([value % 3]) * 16
     data = struct.pack("<BBHHHI", 0x15, 7, 52, 0, 16, 0) + WRITER[12:] + number(value) + struct.pack("<HH", 0x70, 16) + key
     data += struct.pack("<HH", 1, 0) + b"\0\1\0\0" + struct.pack("<I", value & 0xFFFFFFFF)
-    beat = struct.pack("<BBHI", 7, 1, 28, 0) + WRITER[12:] + number(1) + number(value) + struct.pack("<I", count)
-    return HEADER + data + beat
+    return HEADER + data + beat(value, count)
 
 
 def record(moment, octets):
@@ -87,6 +91,8 @@ def run(first, moment, seconds):
             if value % 8 == 0:
                 time.sleep(0.001 * chance.random())
         if not seconds:
+            # The last number is stored behind the answer to its own datagram, and so acknowledged in the next one.
+            process.stdin.write(record(moment + value, HEADER + beat(value - 1, value & 0xFFFFFFFF)))
             process.stdin.close()
             process.wait(60)
     except BrokenPipeError:

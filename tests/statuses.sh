@@ -27,6 +27,12 @@ done >> "$folder/many"
 # Two files of a journal: one that is a folder itself, and one of ten zeros.
 mkdir -p "$folder/no_file/journal.0" "$folder/no_journal"
 head -c 10 /dev/zero > "$folder/no_journal/journal.1"
+# One of the last generation; and a plan of which each setting is kept.
+mkdir "$folder/worn" "$folder/stored"
+(printf 'DDSJRNL1\1\2\0\0\0\377\377\377\377\40\0\0\0\0\0\0\0'; head -c 33 /dev/zero) > "$folder/worn/journal.0"
+sed 's/transient/persistent/' "$plan" > "$folder/persistent"
+cat "$folder/persistent" examples/first/capture.bin > "$folder/to_store"
+sed 's/hash 1/hash 2/' "$folder/persistent" > "$folder/deeper"
 export folder
 
 # A command line must end with this status, and say this line.
@@ -64,5 +70,15 @@ prints $'file 0 blank\nfile 1 broken 0'
 ends 0 '' '"$program" check --dir "$folder/none"'
 prints $'file 0 blank\nfile 1 blank'
 if [ -e "$folder/none" ] || [ -e "$folder/no_journal/journal.0" ]; then echo "tests/statuses.sh: check made a file"; failed=1; fi
+ends 7 'durability: disk fault' '"$program" rerun --dir "$folder/no_file" < "$folder/to_store"'
+ends 7 'durability: disk fault' '"$program" rerun --dir "$folder/none" < "$folder/to_store"'
+if [ -e "$folder/none" ]; then echo "tests/statuses.sh: rerun made a folder"; failed=1; fi
+ends 9 'durability: not a journal 1 0' '"$program" rerun --dir "$folder/no_journal" < "$folder/to_store"'
+ends 10 'durability: worn' '"$program" rerun --dir "$folder/worn" < "$folder/to_store"'
+ends 0 '' '"$program" rerun --dir "$folder/stored" < "$folder/to_store"'
+ends 9 'durability: plan differs T' '"$program" rerun --dir "$folder/stored" < "$folder/deeper"'
+listed=$("$program" list < "$folder/input")
+ends 0 '' '"$program" check --dir "$folder/stored"'
+prints "$(printf 'file 0 open 1 2\nfile 1 blank\n%s 6' "$listed")"
 [ "$failed" = 0 ] && echo "each status: as its input calls for"
 exit "$failed"

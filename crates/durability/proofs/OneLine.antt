@@ -27,22 +27,32 @@ other_words a b r s differ same =
     let first : a ≡ b = ap (λ (w : List Text). slice_first w) same in
     bool_no (bytes_eq a b) (ap (bytes_eq a) (sym first) ∙ eq_same a) differ
 
--- a line whose first word is `list`, `show`, `check` or `late`
+-- a line whose first word is `list`, `show`, `rerun`, `check` or `late`
 line_of_list : (words : List Text) (l : Line) → IsLine (codes "list" ∷ words) l → (at : ℕ) × (epoch : ℕ) × (l ≡ line.List at epoch) × IsList (codes "list" ∷ words) at epoch
 line_of_list words (line.List at epoch) h = (at, epoch, refl, h)
 line_of_list words (line.Show epoch) h = absurd (other_words (codes "list") (codes "show") words h.rest refl h.words_are)
+line_of_list words (line.Rerun dir) h = absurd (other_words (codes "list") (codes "rerun") words h.rest refl h.words_are)
 line_of_list words (line.Check dir) h = absurd (other_words (codes "list") (codes "check") words h.rest refl h.words_are)
 line_of_list words (line.Late reader prefix writer peer turns) h = absurd (other_words (codes "list") (codes "late") words h.rest refl h.words_are)
 
 line_of_show : (words : List Text) (l : Line) → IsLine (codes "show" ∷ words) l → (epoch : ℕ) × (l ≡ line.Show epoch) × IsShow (codes "show" ∷ words) epoch
 line_of_show words (line.List at epoch) h = absurd (other_words (codes "show") (codes "list") words h.rest refl h.words_are)
 line_of_show words (line.Show epoch) h = (epoch, refl, h)
+line_of_show words (line.Rerun dir) h = absurd (other_words (codes "show") (codes "rerun") words h.rest refl h.words_are)
 line_of_show words (line.Check dir) h = absurd (other_words (codes "show") (codes "check") words h.rest refl h.words_are)
 line_of_show words (line.Late reader prefix writer peer turns) h = absurd (other_words (codes "show") (codes "late") words h.rest refl h.words_are)
+
+line_of_rerun : (words : List Text) (l : Line) → IsLine (codes "rerun" ∷ words) l → (dir : List ℕ) × (l ≡ line.Rerun dir) × IsOver (codes "rerun") (codes "rerun" ∷ words) dir
+line_of_rerun words (line.List at epoch) h = absurd (other_words (codes "rerun") (codes "list") words h.rest refl h.words_are)
+line_of_rerun words (line.Show epoch) h = absurd (other_words (codes "rerun") (codes "show") words h.rest refl h.words_are)
+line_of_rerun words (line.Rerun dir) h = (dir, refl, h)
+line_of_rerun words (line.Check dir) h = absurd (other_words (codes "rerun") (codes "check") words h.rest refl h.words_are)
+line_of_rerun words (line.Late reader prefix writer peer turns) h = absurd (other_words (codes "rerun") (codes "late") words h.rest refl h.words_are)
 
 line_of_check : (words : List Text) (l : Line) → IsLine (codes "check" ∷ words) l → (dir : List ℕ) × (l ≡ line.Check dir) × IsOver (codes "check") (codes "check" ∷ words) dir
 line_of_check words (line.List at epoch) h = absurd (other_words (codes "check") (codes "list") words h.rest refl h.words_are)
 line_of_check words (line.Show epoch) h = absurd (other_words (codes "check") (codes "show") words h.rest refl h.words_are)
+line_of_check words (line.Rerun dir) h = absurd (other_words (codes "check") (codes "rerun") words h.rest refl h.words_are)
 line_of_check words (line.Check dir) h = (dir, refl, h)
 line_of_check words (line.Late reader prefix writer peer turns) h = absurd (other_words (codes "check") (codes "late") words h.rest refl h.words_are)
 
@@ -50,6 +60,7 @@ line_of_late : (words : List Text) (l : Line) → IsLine (codes "late" ∷ words
     → (reader : List ℕ) × (prefix : List ℕ) × (writer : List ℕ) × (peer : List ℕ) × (turns : ℕ) × (l ≡ line.Late reader prefix writer peer turns) × IsLate (codes "late" ∷ words) reader prefix writer peer turns
 line_of_late words (line.List at epoch) h = absurd (other_words (codes "late") (codes "list") words h.rest refl h.words_are)
 line_of_late words (line.Show epoch) h = absurd (other_words (codes "late") (codes "show") words h.rest refl h.words_are)
+line_of_late words (line.Rerun dir) h = absurd (other_words (codes "late") (codes "rerun") words h.rest refl h.words_are)
 line_of_late words (line.Check dir) h = absurd (other_words (codes "late") (codes "check") words h.rest refl h.words_are)
 line_of_late words (line.Late reader prefix writer peer turns) h = (reader, prefix, writer, peer, turns, refl, h)
 
@@ -71,7 +82,12 @@ show_no words l never is =
 pub over_has : (word : Text) (words : List Text) (dir : List ℕ) → IsOver word (word ∷ words) dir → HasDir words dir
 over_has word words dir h = subst (λ (w : List Text). HasDir w dir) (sym (ap (λ (w : List Text). rest_of w) h.words_are)) h.has
 
--- the words of `check` are no line where they name no folder
+-- the words of `rerun` or `check` are no line where they name no folder
+pub rerun_no : (words : List Text) (l : Line) → ((dir : List ℕ) → HasDir words dir → ⊥) → IsLine (codes "rerun" ∷ words) l → ⊥
+rerun_no words l never is =
+    let found = line_of_rerun words l is in
+    never found.0 (over_has (codes "rerun") words found.0 found.2)
+
 pub check_no : (words : List Text) (l : Line) → ((dir : List ℕ) → HasDir words dir → ⊥) → IsLine (codes "check" ∷ words) l → ⊥
 check_no words l never is =
     let found = line_of_check words l is in
@@ -138,6 +154,9 @@ one_line words (line.List at epoch) b h k =
 one_line words (line.Show epoch) b h k =
     let other = line_of_show h.rest b (subst (λ (w : List Text). IsLine w b) h.words_are k) in
     show_once (codes "show" ∷ h.rest) epoch other.0 (subst (λ (w : List Text). IsShow w epoch) h.words_are h) other.2 ∙ sym other.1
+one_line words (line.Rerun dir) b h k =
+    let other = line_of_rerun h.rest b (subst (λ (w : List Text). IsLine w b) h.words_are k) in
+    ap (λ (d : List ℕ). line.Rerun d) (over_once (codes "rerun") (codes "rerun" ∷ h.rest) dir other.0 (subst (λ (w : List Text). IsOver (codes "rerun") w dir) h.words_are h) other.2) ∙ sym other.1
 one_line words (line.Check dir) b h k =
     let other = line_of_check h.rest b (subst (λ (w : List Text). IsLine w b) h.words_are k) in
     ap (λ (d : List ℕ). line.Check d) (over_once (codes "check") (codes "check" ∷ h.rest) dir other.0 (subst (λ (w : List Text). IsOver (codes "check") w dir) h.words_are h) other.2) ∙ sym other.1

@@ -50,5 +50,6 @@ pub record IsLate (words : List (List ℕ)) (reader prefix writer peer : List �
 abbrev pub IsLine : List (List ℕ) → Line → Type 0
 IsLine words (line.List at epoch) = IsList words at epoch
 IsLine words (line.Show epoch) = IsShow words epoch
+IsLine words (line.Rerun dir) = IsOver (codes "rerun") words dir
 IsLine words (line.Check dir) = IsOver (codes "check") words dir
 IsLine words (line.Late reader prefix writer peer turns) = IsLate words reader prefix writer peer turns

@@ -42,7 +42,9 @@ fn run<L: Link, K: Sink>(alloc: Global, line: Line, link: &mut L, out: &mut K) -
             turns,
             ..
         } => take_replay(alloc, reader, prefix, writer, turns, link, out),
-        Line::List { .. } | Line::Show { .. } | Line::Check { .. } => LateStatus::Usage,
+        Line::List { .. } | Line::Show { .. } | Line::Rerun { .. } | Line::Check { .. } => {
+            LateStatus::Usage
+        }
     }
 }
 

@@ -13,7 +13,7 @@ mod words;
 use dur_outside::{FileDisk, FileRig, OutputRig, Rig, Sink, StdSink, StdSource, UdpLink};
 use dur_rerun::Status;
 use dur_rerun::late::LateStatus;
-use files::files_to_read;
+use files::{files_to_read, files_to_store};
 use late::{late_number, say_late_fault};
 use run::durability;
 use status::{number, say_fault};
@@ -38,6 +38,7 @@ fn main(rt: HostRuntime) -> ExitCode {
     };
     match read_words(rt.alloc(), &words) {
         Ok(Line::Late { peer, .. }) => run_late(&rt, &words, peer.text(), &mut err),
+        Ok(Line::Rerun { dir }) => run_over(&rt, &words, files_to_store(&rt, dir.text()), &mut err),
         Ok(Line::Check { dir }) => run_over(&rt, &words, files_to_read(&rt, dir.text()), &mut err),
         _ => {
             let rig = OutputRig::new(StdSink::new(rt.stdout()));

@@ -6,6 +6,7 @@ ghost use Rattle.dur_rerun.specs.Command.{HasReason, Arrives, GoesOut, Keeps};
 ghost use Rattle.dur_rerun.specs.Saying.{IsSaid, wrote};
 ghost use Rattle.durability.specs.Calls.{IsOwn, IsOwnLine, answers_of, ends_of};
 ghost use Rattle.durability.specs.Calls.{IsOfInput, IsInputLine, IsCheck, IsCheckLine, RunsCheck};
+ghost use Rattle.durability.specs.Calls.{IsRerun, IsRerunLine, RunsRerun, CallsFiles, IsFileLine};
 ghost use Rattle.durability.specs.Status.{fault_line};
 ghost use Rattle.durability.specs.declared.words.Line.{Line};
 
@@ -14,6 +15,7 @@ use crate::words::{Line, WordsFault, read_words};
 use dur_outside::{Rig, Sink, Source};
 use dur_rerun::check::check;
 use dur_rerun::list::list;
+use dur_rerun::rerun::rerun;
 use dur_rerun::show::show;
 use dur_rerun::{Ran, Status};
 use std::alloc::Global;
@@ -32,13 +34,17 @@ fn run<S: Source, R: Rig>(alloc: Global, line: Line, input: &mut S, rig: R) -> R
         (R.world rig).now (R.world result.rig).now (R.disk_faults rig) (R.disk_faults result.rig)
         (R.sink_faults rig) (R.sink_faults result.rig) }
     ensures unread { IsCheck line → input.new ≡ input.old }
-    ensures keeps { (IsCheck line → ⊥)
+    ensures reruns { IsRerun line → RunsRerun (S.left input.old) (S.left input.new) result.status R.tells
+        rig result.rig (R.world rig) (R.world result.rig) (S.faults input.old) (S.faults input.new)
+        (R.sink_faults rig) (R.sink_faults result.rig) (R.disk_faults rig) (R.disk_faults result.rig) }
+    ensures keeps { (CallsFiles line → ⊥)
         → Keeps R.tells (R.world rig).now (R.world result.rig).now
         (R.disk_faults rig) (R.disk_faults result.rig) }
 {
     match line {
         Line::List { at, epoch } => list(alloc, at, epoch, input, rig),
         Line::Show { epoch } => show(alloc, epoch, input, rig),
+        Line::Rerun { .. } => rerun(alloc, input, rig),
         Line::Check { .. } => check(alloc, rig),
         Line::Late { .. } => Ran {
             status: Status::Usage,
@@ -61,10 +67,11 @@ fn told<R: Rig, E: Sink>(ran: Ran<R>, err: &mut E) -> Ran<R>
 /// Does what the words after the program's name ask for, and hands the rig back.
 ///
 /// `list` reads a plan and a capture, and prints what the history that they admit entitles a late
-/// reader to. `show` prints a line for each record of the capture. `check` reads no input: it prints what the two
-/// files of the rig are, and what a journal over them would keep. Other words are `Usage`; those of `late` are, too,
-/// which is a call of its own. The status says what became of it, and a status other than `Done` is said on `err` in
-/// one line; that `err` fails changes no status.
+/// reader to. `show` prints a line for each record of the capture. `rerun` handles the records one after the other over
+/// the journal of the rig's two files: it stores what they bring to persistent topics, and writes out what they call for.
+/// `check` reads no input: it prints what the two files of the rig are, and what a journal over them would keep. Other
+/// words are `Usage`; those of `late` are, too, which is a call of its own. The status says what became of it, and a
+/// status other than `Done` is said on `err` in one line; that `err` fails changes no status.
 pub fn durability<S: Source, R: Rig, E: Sink>(
     alloc: Global,
     words: &[String],
@@ -94,8 +101,13 @@ pub fn durability<S: Source, R: Rig, E: Sink>(
         (R.disk_faults rig) (R.disk_faults result.rig) (R.sink_faults rig) (R.sink_faults result.rig) }
     ensures unread { (line : Line) → IsCheckLine (map string_bytes words.now) line
         → input.new ≡ input.old }
-    // They are not.
-    ensures keeps { ((line : Line) → IsCheckLine (map string_bytes words.now) line → ⊥)
+    // They are `rerun`.
+    ensures reruns { (line : Line) → IsRerunLine (map string_bytes words.now) line
+        → RunsRerun (S.left input.old) (S.left input.new) result.status R.tells
+        rig result.rig (R.world rig) (R.world result.rig) (S.faults input.old) (S.faults input.new)
+        (R.sink_faults rig) (R.sink_faults result.rig) (R.disk_faults rig) (R.disk_faults result.rig) }
+    // They are neither.
+    ensures keeps { ((line : Line) → IsFileLine (map string_bytes words.now) line → ⊥)
         → Keeps R.tells (R.world rig).now (R.world result.rig).now
         (R.disk_faults rig) (R.disk_faults result.rig) }
     // The line of a fault.

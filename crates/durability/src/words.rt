@@ -33,6 +33,11 @@ pub enum Line {
         /// The epoch of the service.
         epoch: u32,
     },
+    /// What the records of a capture call for over a journal, which stores what they admit.
+    Rerun {
+        /// The folder that the journal's files stand in, which main alone reads.
+        dir: Argument,
+    },
     /// A look at the two files of a journal.
     Check {
         /// The folder that the files stand in, which main alone reads.
@@ -121,6 +126,15 @@ fn dir_of(alloc: Global, words: &[String]) -> Result<Argument, WordsFault>
     argument_of(alloc, given.get_str("dir"))
 }
 
+/// The line of `rerun` with these words behind it.
+fn rerun_line(alloc: Global, words: &[String]) -> Result<Line, WordsFault>
+    ensures line { IfOk result (λ line. IsLine (codes "rerun" ∷ map string_bytes words.now) line) }
+    ensures usage { result ≡ Err WordsFault.Usage → (line : Asked) → IsLine (codes "rerun" ∷ map string_bytes words.now) line → ⊥ }
+{
+    let dir = dir_of(alloc, words)?;
+    Ok(Line::Rerun { dir })
+}
+
 /// The line of `check` with these words behind it.
 fn check_line(alloc: Global, words: &[String]) -> Result<Line, WordsFault>
     ensures line { IfOk result (λ line. IsLine (codes "check" ∷ map string_bytes words.now) line) }
@@ -164,6 +178,12 @@ fn is_show_word(word: &String) -> bool
     word.as_str() == "show"
 }
 
+fn is_rerun_word(word: &String) -> bool
+    ensures { IsTrue result ↔ (string_bytes word.now ≡ codes "rerun") }
+{
+    word.as_str() == "rerun"
+}
+
 fn is_check_word(word: &String) -> bool
     ensures { IsTrue result ↔ (string_bytes word.now ≡ codes "check") }
 {
@@ -188,6 +208,8 @@ pub fn read_words(alloc: Global, words: &[String]) -> Result<Line, WordsFault>
             list_line(alloc, rest)
         } else if is_show_word(word) {
             show_line(alloc, rest)
+        } else if is_rerun_word(word) {
+            rerun_line(alloc, rest)
         } else if is_check_word(word) {
             check_line(alloc, rest)
         } else if is_late_word(word) {
