@@ -12,6 +12,7 @@ pub mod ReplayPlaces
 pub mod Rest
 pub mod Says
 pub mod SaysThrough
+pub mod Sendable
 pub mod SendsOut
 pub mod SessionReplies
 pub mod Shows

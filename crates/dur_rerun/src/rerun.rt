@@ -1,6 +1,7 @@
 //! The command `rerun`: what a record calls for, written out through a journal.
 
 mod nacks;
+mod opening;
 mod replays;
 mod reply;
 mod saying;
