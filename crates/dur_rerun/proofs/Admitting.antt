@@ -1,8 +1,8 @@
 -- The calls for records: what they are, and to which run they lead.
-use Rattle.std.proofs.Common.{◌≡◌, ℕ, max, List, [], ◌∷◌, ◌++◌, Bool, false, refl, sym, ap, subst, ◌∙◌, append-nil, arith}
+use Rattle.std.proofs.Common.{◌≡◌, ℕ, max, List, [], ◌∷◌, ◌++◌, Bool, false, refl, length, sym, ap, subst, ◌∙◌, append-nil, arith}
+use Rattle.std.proofs.lemmas.List.{length-map}
 use Rattle.dur_base.specs.declared.fact.Fact.{Fact}
 use Rattle.dur_capture.specs.declared.record.Record.{Record}
-use Rattle.dur_qos.specs.declared.plan.Plan.{Plan}
 use Rattle.rtps_message.specs.declared.heard.Heard.{Heard}
 use Rattle.rtps_message.specs.Messages.{Hears}
 use Rattle.rtps_message.proofs.Once.{hears_once}
@@ -16,24 +16,39 @@ use Rattle.dur_hub.specs.Leases.{at_moment, after_lease}
 use Rattle.dur_hub.specs.Steps.{after_step, after_steps}
 use Rattle.dur_hub.specs.Legal.{IsLeft, facts_of, after, run_after}
 use Rattle.dur_hub.specs.Handed.{acks_by}
+use Rattle.dur_hub.specs.Readings.{refusals_by}
 use Rattle.dur_hub.specs.Hubs.{Adds}
 use Rattle.dur_hub.specs.Alike.{IsAlike, AreAlike}
 use Rattle.dur_hub.specs.Answers.{TellsReceive, TellsOf}
 use Rattle.dur_hub.proofs.Going.{moment_steps}
+use Rattle.dur_rerun.specs.declared.rerun.nacks.Nack.{Nack}
+use Rattle.dur_rerun.specs.Rerun.Replies.{nacks}
 use Rattle.dur_rerun.specs.Admission.{IsWhole, Brings, Admitted, BringAll}
 use Rattle.dur_rerun.specs.List.Listing.{latest}
 
 -- ---- one call
 
--- where memory was not wanting, no fact is left
-none_left : (stopped : Bool) (cut : List Step) (rest : List Fact) → stopped ≡ false → IsLeft stopped cut rest → rest ≡ []
-none_left stopped cut rest whole left = (subst (λ (b : Bool). IsLeft b cut rest) whole left).1
+all_handled : (steps cut : List Step) → cut ≡ [] → length (facts_of (steps ++ cut)) ≡ length steps
+all_handled steps cut none = length-map (steps ++ cut) (λ (s : Step). s.fact) ∙ ap (λ (l : List Step). length (steps ++ l)) none ∙ ap length (append-nil steps)
 
-tells_whole : (m : ℕ) (facts : List Fact) (reply : Received) (e : Event) → TellsReceive m facts reply e → reply.stopped ≡ false → IsWhole m facts e × (reply.acks ≡ acks_by e)
+-- what the reply of a whole call says of it
+record Whole (m : ℕ) (facts : List Fact) (reply : Received) (e : Event) : Type 0 where
+  is : IsWhole m facts e
+  acks : reply.acks ≡ acks_by e
+  refused : reply.refused ≡ refusals_by e
+  handled : reply.handled ≡ length facts
+
+tells_whole : (m : ℕ) (facts : List Fact) (reply : Received) (e : Event) → TellsReceive m facts reply e → reply.stopped ≡ false → Whole m facts reply e
 tells_whole m facts reply (event.Receive at lost steps cut stopped) tells whole =
     let t : TellsOf facts reply steps cut = tells.2 in
-    let all : facts ≡ facts_of (steps ++ cut) = t.told ∙ ap (λ (l : List Fact). facts_of (steps ++ cut) ++ l) (none_left reply.stopped cut t.rest whole t.left) ∙ append-nil (facts_of (steps ++ cut)) in
-    ((tells.0, sym all, tells.1 ∙ whole), t.acks)
+    let left : (cut ≡ []) × (t.rest ≡ []) = subst (λ (b : Bool). IsLeft b cut t.rest) whole t.left in
+    let all : facts ≡ facts_of (steps ++ cut) = t.told ∙ ap (λ (l : List Fact). facts_of (steps ++ cut) ++ l) left.1 ∙ append-nil (facts_of (steps ++ cut)) in
+    record {
+      is = (tells.0, sym all, tells.1 ∙ whole);
+      acks = t.acks;
+      refused = t.refused;
+      handled = t.handled ∙ sym (all_handled steps cut left.0) ∙ sym (ap length all);
+    }
 tells_whole m facts reply (event.Snapshot at g lost answer) tells whole = absurd tells
 tells_whole m facts reply (event.Take b) tells whole = absurd tells
 tells_whole m facts reply (event.TakeView answer) tells whole = absurd tells
@@ -43,15 +58,19 @@ tells_whole m facts reply event.Leave tells whole = absurd tells
 tells_whole m facts reply (event.State s) tells whole = absurd tells
 
 -- a `receive` of what a record tells, for which memory was not wanting, is the call for it
-brings : (own : List ℕ) (r : Record) (heard : Heard) (reply : Received) (e : Event) → Hears own r.bytes heard → TellsReceive r.moment heard.facts reply e → reply.stopped ≡ false → Brings own r e × (reply.acks ≡ acks_by e)
-brings own r heard reply e hears tells whole =
-    let w = tells_whole r.moment heard.facts reply e tells whole in
-    (record { heard = heard; hears = hears; whole = w.0 }, w.1)
-
-pub admitted : (own : List ℕ) (r : Record) (heard : Heard) (reply : Received) (old new : Hub) → Hears own r.bytes heard → ((e : Event) × TellsReceive r.moment heard.facts reply e × Adds old e new) → reply.stopped ≡ false → Admitted own r reply old new
-admitted own r heard reply old new hears called whole =
-    let b = brings own r heard reply called.0 hears called.1 whole in
-    record { call = called.0; brings = b.0; acks = b.1; adds = called.2 }
+pub admitted : (own : List ℕ) (r : Record) (heard : Heard) (reply : Received) (asked : List Nack) (old new : Hub) → Hears own r.bytes heard → asked ≡ nacks heard.facts
+    → ((e : Event) × TellsReceive r.moment heard.facts reply e × Adds old e new) → reply.stopped ≡ false → Admitted own r reply asked old new
+admitted own r heard reply asked old new hears are called whole =
+    let t = tells_whole r.moment heard.facts reply called.0 called.1 whole in
+    record {
+      call = called.0;
+      brings = record { heard = heard; hears = hears; whole = t.is };
+      acks = t.acks;
+      refused = t.refused;
+      handled = t.handled;
+      nacks_are = are;
+      adds = called.2;
+    }
 
 -- ---- calls one after the other
 
@@ -62,7 +81,7 @@ bring_more own [] (f ∷ es) r e all one = absurd all
 bring_more own (x ∷ rs) [] r e all one = absurd all
 bring_more own (x ∷ rs) (f ∷ es) r e all one = (all.0, bring_more own rs es r e all.1 one)
 
-plan_steps : (r : Run) (ss : List Step) → (after_steps r ss).plan ≡ r.plan
+pub plan_steps : (r : Run) (ss : List Step) → (after_steps r ss).plan ≡ r.plan
 plan_steps r [] = refl
 plan_steps r (s ∷ ss) = plan_steps (after_step r s) ss
 

@@ -6,7 +6,7 @@ use Rattle.bytes.proofs.Ranges.{take-append_past}
 use Rattle.dur_outside.specs.World.{Image}
 use Rattle.dur_outside.specs.Causes.{Rose}
 use Rattle.dur_rerun.specs.declared.status.Status.{Status}
-use Rattle.dur_rerun.specs.declared.status.Status.TheVariants.{Done, Usage, OutOfMemory, Input, ReadFault, WriteFault, Plan}
+use Rattle.dur_rerun.specs.declared.status.Status.TheVariants.{Done, Usage, OutOfMemory, Input, ReadFault, WriteFault, Plan, DiskFault, NotAJournal, PlanDiffers, Full, Worn}
 use Rattle.dur_rerun.specs.Command.{IsTold, IsFunction, HasReason, Arrives, GoesOut, Keeps}
 use Rattle.dur_rerun.specs.Input.Whole.{IsWholeInput}
 use Rattle.dur_rerun.specs.Saying.{IsSaid, wrote}
@@ -42,7 +42,7 @@ pub said_all : (a : List ℕ) (first new : Image) → new ≡ wrote a first → 
 said_all a first new p = record { count = length a; written = p ∙ ap (λ (t : List ℕ). wrote t first) (sym (take_all (length a) a (omega arith))) }
 
 -- all went out
-pub all_out : (answers : List ℕ → List ℕ → Status → Type 0) (input text : List ℕ) (s : Status) (tells : Type 0) (old new : Image) → answers input text s → (tells → new ≡ wrote text old) → GoesOut answers input s tells old new
+pub all_out : {I : Type 0} → (answers : I → List ℕ → Status → Type 0) (input : I) (text : List ℕ) (s : Status) (tells : Type 0) (old new : Image) → answers input text s → (tells → new ≡ wrote text old) → GoesOut answers input s tells old new
 all_out answers input text s tells old new h written = record {
   text = text;
   answers = h;
@@ -51,7 +51,7 @@ all_out answers input text s tells old new h written = record {
 }
 
 -- there is nothing to go out
-pub nothing_out : (answers : List ℕ → List ℕ → Status → Type 0) (input : List ℕ) (s : Status) (tells : Type 0) (now : Image) → answers input [] s → GoesOut answers input s tells now now
+pub nothing_out : {I : Type 0} → (answers : I → List ℕ → Status → Type 0) (input : I) (s : Status) (tells : Type 0) (now : Image) → answers input [] s → GoesOut answers input s tells now now
 nothing_out answers input s tells now h = all_out answers input [] s tells now now h (λ t. wrote_nothing now)
 
 pub keeps_same : (tells : Type 0) (now : Image) (disk : ℕ) → Keeps tells now now disk disk
@@ -93,6 +93,11 @@ answer_comes answers laws input text t (Input place fault) a P Q h read write to
 answer_comes answers laws input text t ReadFault a P Q h read write told other p q = absurd (p (read refl))
 answer_comes answers laws input text t WriteFault a P Q h read write told other p q = absurd (q (write refl))
 answer_comes answers laws input text t (Plan line kind) a P Q h read write told other p q = inl (laws.once input text t (Plan line kind) a tt told h other).1
+answer_comes answers laws input text t (NotAJournal file place) a P Q h read write told other p q = inl (laws.once input text t (NotAJournal file place) a tt told h other).1
+answer_comes answers laws input text t (PlanDiffers name) a P Q h read write told other p q = inl (laws.once input text t (PlanDiffers name) a tt told h other).1
+answer_comes answers laws input text t (Full size) a P Q h read write told other p q = inl (laws.once input text t (Full size) a tt told h other).1
+answer_comes answers laws input text t Worn a P Q h read write told other p q = inl (laws.once input text t Worn a tt told h other).1
+answer_comes answers laws input text t DiskFault a P Q h read write told other p q = absurd (laws.files input text h)
 
 whole_comes : (answers : List ℕ → List ℕ → Status → Type 0) → IsFunction answers → (input text : List ℕ) (s : Status) (P Q : Type 0) → IsWholeInput input → answers input text s → (s ≡ ReadFault → P) → (s ≡ WriteFault → Q)
     → (P → ⊥) → (Q → ⊥) → (s ≡ Done) ⊎ (s ≡ OutOfMemory)
@@ -103,6 +108,11 @@ whole_comes answers laws input text (Input place fault) P Q w h read write p q =
 whole_comes answers laws input text ReadFault P Q w h read write p q = absurd (p (read refl))
 whole_comes answers laws input text WriteFault P Q w h read write p q = absurd (q (write refl))
 whole_comes answers laws input text (Plan line kind) P Q w h read write p q = inl (laws.whole input text (Plan line kind) w tt h)
+whole_comes answers laws input text (NotAJournal file place) P Q w h read write p q = inl (laws.whole input text (NotAJournal file place) w tt h)
+whole_comes answers laws input text (PlanDiffers name) P Q w h read write p q = inl (laws.whole input text (PlanDiffers name) w tt h)
+whole_comes answers laws input text (Full size) P Q w h read write p q = inl (laws.whole input text (Full size) w tt h)
+whole_comes answers laws input text Worn P Q w h read write p q = inl (laws.whole input text Worn w tt h)
+whole_comes answers laws input text DiskFault P Q w h read write p q = absurd (laws.files input text h)
 
 silent_comes : (answers : List ℕ → List ℕ → Status → Type 0) → IsFunction answers → (input text : List ℕ) (s a : Status) (P : Type 0) → answers input text s → (s ≡ ReadFault → P) → IsTold a → answers input [] a
     → (P → ⊥) → (s ≡ a) ⊎ (s ≡ OutOfMemory)
@@ -113,6 +123,11 @@ silent_comes answers laws input text (Input place fault) a P h read told other p
 silent_comes answers laws input text ReadFault a P h read told other p = absurd (p (read refl))
 silent_comes answers laws input text WriteFault a P h read told other p = absurd (laws.writes input text a told h other)
 silent_comes answers laws input text (Plan line kind) a P h read told other p = inl (laws.once input text [] (Plan line kind) a tt told h other).1
+silent_comes answers laws input text (NotAJournal file place) a P h read told other p = inl (laws.once input text [] (NotAJournal file place) a tt told h other).1
+silent_comes answers laws input text (PlanDiffers name) a P h read told other p = inl (laws.once input text [] (PlanDiffers name) a tt told h other).1
+silent_comes answers laws input text (Full size) a P h read told other p = inl (laws.once input text [] (Full size) a tt told h other).1
+silent_comes answers laws input text Worn a P h read told other p = inl (laws.once input text [] Worn a tt told h other).1
+silent_comes answers laws input text DiskFault a P h read told other p = absurd (laws.files input text h)
 
 -- where the relation is a function
 pub arrives : (answers : List ℕ → List ℕ → Status → Type 0) → IsFunction answers → (Ends : Status → Type 0) (known left : Option (List ℕ)) (s : Status) (read read_now written written_now : ℕ) (tells : Type 0) (old new : Image)

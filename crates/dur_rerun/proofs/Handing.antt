@@ -11,7 +11,7 @@ use Rattle.dur_capture.specs.declared.fault.CapFault.TheVariants as cap
 use Rattle.dur_capture.specs.Capture.{record_text}
 use Rattle.dur_capture.specs.Feeding.{Feeding, Takes, Waits, Stops}
 use Rattle.dur_rerun.specs.declared.status.Status.{Status}
-use Rattle.dur_rerun.specs.declared.status.Status.TheVariants.{Done, Usage, OutOfMemory, Input, ReadFault, WriteFault, Plan}
+use Rattle.dur_rerun.specs.declared.status.Status.TheVariants.{Done, Usage, OutOfMemory, Input, ReadFault, WriteFault, Plan, DiskFault, NotAJournal, PlanDiffers, Full, Worn}
 use Rattle.dur_rerun.specs.Input.Breaks.{capture_status, EndsRecords, EndsRefill}
 use Rattle.dur_rerun.specs.Input.Records.{total, given, Refills, HandsOut, Ends, BreaksOff, StopsRecords}
 
@@ -90,6 +90,11 @@ refill_ends ReadFault ends = tt
 refill_ends OutOfMemory ends = tt
 refill_ends Done ends = absurd ends
 refill_ends Usage ends = absurd ends
+refill_ends DiskFault ends = absurd ends
+refill_ends (NotAJournal file at') ends = absurd ends
+refill_ends (PlanDiffers name) ends = absurd ends
+refill_ends (Full size) ends = absurd ends
+refill_ends Worn ends = absurd ends
 refill_ends WriteFault ends = absurd ends
 refill_ends (Input place fault) ends = absurd ends
 refill_ends (Plan line kind) ends = absurd ends
@@ -99,6 +104,11 @@ refill_stops ReadFault known now old ends = tt
 refill_stops OutOfMemory known now old ends = tt
 refill_stops Done known now old ends = absurd ends
 refill_stops Usage known now old ends = absurd ends
+refill_stops DiskFault known now old ends = absurd ends
+refill_stops (NotAJournal file at') known now old ends = absurd ends
+refill_stops (PlanDiffers name) known now old ends = absurd ends
+refill_stops (Full size) known now old ends = absurd ends
+refill_stops Worn known now old ends = absurd ends
 refill_stops WriteFault known now old ends = absurd ends
 refill_stops (Input place fault) known now old ends = absurd ends
 refill_stops (Plan line kind) known now old ends = absurd ends

@@ -1,14 +1,12 @@
 -- How a run of `late` ends.
-use Rattle.std.proofs.Common.{◌≡◌, ◌≤◌, ◌<◌, ◌+◌, ◌*◌, ◌⊎◌, inl, inr, ℕ, Bool, true, false, List, [], ◌∷◌, ◌++◌, length, Option, Result, Ok, Err, refl, sym, ap, subst, ◌∙◌, arith, append-nil}
+use Rattle.std.proofs.Common.{◌≡◌, ◌≤◌, inl, inr, ℕ, Bool, true, false, List, [], ◌++◌, length, Option, Result, Ok, Err, refl, sym, ap, subst, ◌∙◌, arith, append-nil}
 use Rattle.std.specs.Prelude.{OnOk}
 use Rattle.std.proofs.lemmas.List.{append_cancel_left}
-use Rattle.dur_view.specs.declared.change.Change.{Change}
 use Rattle.dur_outside.specs.World.{Image}
-use Rattle.dur_outside.specs.Causes.{HasCause, Rose}
+use Rattle.dur_outside.specs.Causes.{HasCause}
 use Rattle.dur_outside.specs.declared.values.Failed.{Failed}
-use Rattle.rel_writer.specs.declared.ids.Ids.{Ids}
 use Rattle.rel_writer.specs.declared.late.LateReader.{LateReader}
-use Rattle.rel_writer.specs.LateReaders.{Late, fresh}
+use Rattle.rel_writer.specs.LateReaders.{Late}
 use Rattle.rel_writer.specs.Sets.{any_marker}
 use Rattle.dur_rerun.specs.Saying.{IsSaid, wrote}
 use Rattle.dur_rerun.specs.Late.Turns.{Turn, TakesAll, answers}

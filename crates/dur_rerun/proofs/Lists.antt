@@ -1,11 +1,10 @@
 -- What a hub lists behind a plan is the text for the whole input.
-use Rattle.std.proofs.Common.{◌≡◌, ◌≢◌, ℕ, ◌+◌, ◌<◌, ◌≤◌, ◌^◌, max, List, [], ◌∷◌, ◌++◌, length, drop, Option, None, Result, Ok, Err, refl, sym, ap, subst, ◌∙◌, append_assoc, arith, inl, inr}
+use Rattle.std.proofs.Common.{◌≡◌, ◌≢◌, ℕ, ◌+◌, ◌<◌, ◌≤◌, ◌^◌, max, List, [], ◌∷◌, ◌++◌, length, drop, Option, None, Result, Ok, Err, refl, sym, ap, subst, ◌∙◌, append_assoc, arith}
 use Rattle.std.specs.Prelude.{IfSome, OnOk, OnErr, IfErr}
 use Rattle.std.specs.Io.KnownBytes.{Consumes, IsAtEnd}
 use Rattle.dur_outside.specs.World.{Image}
 use Rattle.dur_outside.specs.Causes.{Rose}
 use Rattle.dur_capture.specs.Feeding.{Feeding}
-use Rattle.dur_capture.specs.Whole.{BreaksAt}
 use Rattle.dur_qos.specs.declared.plan.Plan.{Plan as PlanOf}
 use Rattle.dur_qos.specs.declared.plan.Topic.{Topic}
 use Rattle.dur_qos.specs.Good.{GoodPlan}
@@ -13,7 +12,6 @@ use Rattle.dur_qos.specs.Text.{PlanText}
 use Rattle.dur_qos.proofs.Goods.{text_good}
 use Rattle.dur_view.specs.declared.change.Change.{Change}
 use Rattle.dur_view.specs.Full.{blank}
-use Rattle.dur_hub.specs.declared.event.Event.{Event}
 use Rattle.dur_hub.specs.declared.hub.Hub.{Hub}
 use Rattle.dur_hub.specs.Runs.{Run, opening}
 use Rattle.dur_hub.specs.Legal.{run_after}
@@ -21,7 +19,7 @@ use Rattle.dur_hub.specs.Replays.{listing}
 use Rattle.dur_hub.specs.Hubs.{Stands}
 use Rattle.dur_rerun.specs.declared.input.plan.Opened.{Opened}
 use Rattle.dur_rerun.specs.declared.status.Status.{Status}
-use Rattle.dur_rerun.specs.declared.status.Status.TheVariants.{Done, Usage, OutOfMemory, Input, ReadFault, WriteFault, Plan}
+use Rattle.dur_rerun.specs.declared.status.Status.TheVariants.{Done, Usage, OutOfMemory, Input, ReadFault, WriteFault, Plan, DiskFault, NotAJournal, PlanDiffers, Full, Worn}
 use Rattle.dur_rerun.specs.Admission.{BringAll}
 use Rattle.dur_rerun.specs.Command.{HasReason, GoesOut, status_of}
 use Rattle.dur_rerun.specs.Saying.{IsSaid, wrote}
@@ -33,7 +31,7 @@ use Rattle.dur_rerun.specs.List.Listing.{latest, lines_from, list_text, IsListin
 use Rattle.dur_rerun.specs.List.History.{TakesWhole, StopsRest}
 use Rattle.dur_rerun.specs.List.Answer.{Lists, ListAnswers, ListEnds, EndsUnwritten}
 use Rattle.dur_rerun.proofs.Admitting.{calls_keep}
-use Rattle.dur_rerun.proofs.Commands.{if_some, if_any, all_out}
+use Rattle.dur_rerun.proofs.Commands.{if_some, all_out}
 use Rattle.dur_rerun.proofs.Whole.{plan_more, behind_plan, behind}
 
 -- ---- the text of a hub
@@ -63,7 +61,7 @@ fresh_feed seen p o =
     (omega (arith, before, o.within), ap (λ (f : Feeding). f.taken) o.feed_is, ap (λ (f : Feeding). f.fault) o.feed_is)
 
 -- what holds of the octets behind the plan
-lifted : (known mid : Option (List ℕ)) (seen : List ℕ) (p : Opened) (o : Opens seen p) (F : ℕ → List ℕ → Type 0) (P : List ℕ → Type 0) → Consumes known mid seen
+pub lifted : (known mid : Option (List ℕ)) (seen : List ℕ) (p : Opened) (o : Opens seen p) (F : ℕ → List ℕ → Type 0) (P : List ℕ → Type 0) → Consumes known mid seen
     → IfSome mid (λ tail. F p.feed.before (p.feed.left ++ tail)) → ((input : List ℕ) → PlanText input p.plan o.n → F o.n (drop o.n input) → P input) → IfSome known P
 lifted known mid seen p o F P consumed holds leads =
     behind known mid seen P (λ tail. F p.feed.before (p.feed.left ++ tail)) consumed holds (λ tail h.
@@ -106,6 +104,11 @@ rest_answers OutOfMemory at epoch input p n plan_is ends stops = refl
 rest_answers ReadFault at epoch input p n plan_is ends stops = refl
 rest_answers Done at epoch input p n plan_is ends stops = absurd ends
 rest_answers Usage at epoch input p n plan_is ends stops = absurd ends
+rest_answers DiskFault at epoch input p n plan_is ends stops = absurd ends
+rest_answers (NotAJournal file at') at epoch input p n plan_is ends stops = absurd ends
+rest_answers (PlanDiffers name) at epoch input p n plan_is ends stops = absurd ends
+rest_answers (Full size) at epoch input p n plan_is ends stops = absurd ends
+rest_answers Worn at epoch input p n plan_is ends stops = absurd ends
 rest_answers WriteFault at epoch input p n plan_is ends stops = absurd ends
 rest_answers (Plan line kind) at epoch input p n plan_is ends stops = absurd ends
 
@@ -122,6 +125,11 @@ plan_lists ReadFault at epoch input ends stops = refl
 plan_lists (Plan line k) at epoch input ends stops = (refl, stops)
 plan_lists Done at epoch input ends stops = absurd ends
 plan_lists Usage at epoch input ends stops = absurd ends
+plan_lists DiskFault at epoch input ends stops = absurd ends
+plan_lists (NotAJournal file at') at epoch input ends stops = absurd ends
+plan_lists (PlanDiffers name) at epoch input ends stops = absurd ends
+plan_lists (Full size) at epoch input ends stops = absurd ends
+plan_lists Worn at epoch input ends stops = absurd ends
 plan_lists WriteFault at epoch input ends stops = absurd ends
 plan_lists (Input place fault) at epoch input ends stops = absurd ends
 
@@ -133,6 +141,11 @@ plan_unwritten ReadFault ends = tt
 plan_unwritten (Plan line k) ends = ends
 plan_unwritten Done ends = absurd ends
 plan_unwritten Usage ends = absurd ends
+plan_unwritten DiskFault ends = absurd ends
+plan_unwritten (NotAJournal file at') ends = absurd ends
+plan_unwritten (PlanDiffers name) ends = absurd ends
+plan_unwritten (Full size) ends = absurd ends
+plan_unwritten Worn ends = absurd ends
 plan_unwritten WriteFault ends = absurd ends
 plan_unwritten (Input place fault) ends = absurd ends
 
@@ -142,6 +155,11 @@ records_unwritten ReadFault ends = tt
 records_unwritten (Input place fault) ends = ends
 records_unwritten Done ends = absurd ends
 records_unwritten Usage ends = absurd ends
+records_unwritten DiskFault ends = absurd ends
+records_unwritten (NotAJournal file at') ends = absurd ends
+records_unwritten (PlanDiffers name) ends = absurd ends
+records_unwritten (Full size) ends = absurd ends
+records_unwritten Worn ends = absurd ends
 records_unwritten WriteFault ends = absurd ends
 records_unwritten (Plan line kind) ends = absurd ends
 
@@ -152,6 +170,11 @@ unwritten_ends (Input place fault) ends = ends
 unwritten_ends (Plan line k) ends = ends
 unwritten_ends Done ends = absurd ends
 unwritten_ends Usage ends = absurd ends
+unwritten_ends DiskFault ends = absurd ends
+unwritten_ends (NotAJournal file at') ends = absurd ends
+unwritten_ends (PlanDiffers name) ends = absurd ends
+unwritten_ends (Full size) ends = absurd ends
+unwritten_ends Worn ends = absurd ends
 unwritten_ends WriteFault ends = absurd ends
 
 -- ---- the text goes out

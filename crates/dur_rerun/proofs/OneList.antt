@@ -11,7 +11,7 @@ use Rattle.dur_view.specs.Full.{blank}
 use Rattle.dur_hub.specs.Runs.{Run, opening}
 use Rattle.dur_hub.proofs.Same.{law_same}
 use Rattle.dur_rerun.specs.declared.status.Status.{Status}
-use Rattle.dur_rerun.specs.declared.status.Status.TheVariants.{Done, Usage, OutOfMemory, Input, ReadFault, WriteFault, Plan}
+use Rattle.dur_rerun.specs.declared.status.Status.TheVariants.{Done, Usage, OutOfMemory, Input, ReadFault, WriteFault, Plan, DiskFault, NotAJournal, PlanDiffers, Full, Worn}
 use Rattle.dur_rerun.specs.Admission.{Admits}
 use Rattle.dur_rerun.specs.Command.{IsTold, IsFunction}
 use Rattle.dur_rerun.specs.Input.Breaks.{PlanBreaks, CaptureBreaks}
@@ -54,15 +54,30 @@ both_empty t u a b = a ∙ sym b
 list_once : (at epoch : ℕ) (input t u : List ℕ) (s r : Status) → IsTold s → IsTold r → ListAnswers at epoch input t s → ListAnswers at epoch input u r → (t ≡ u) × (s ≡ r)
 list_once at epoch input t u Done Done a b h k = (one_text at epoch input t u h k, refl)
 list_once at epoch input t u Done Usage a b h k = absurd b
+list_once at epoch input t u Done DiskFault a b h k = absurd k
+list_once at epoch input t u Done (NotAJournal file at') a b h k = absurd k
+list_once at epoch input t u Done (PlanDiffers name) a b h k = absurd k
+list_once at epoch input t u Done (Full size) a b h k = absurd k
+list_once at epoch input t u Done Worn a b h k = absurd k
 list_once at epoch input t u Done OutOfMemory a b h k = absurd b
 list_once at epoch input t u Done (Input place' fault') a b h k = absurd (lists_or_break at epoch input t fault' h k.2)
 list_once at epoch input t u Done ReadFault a b h k = absurd b
 list_once at epoch input t u Done WriteFault a b h k = absurd b
 list_once at epoch input t u Done (Plan line' kind') a b h k = absurd (lists_or_plan at epoch input t line' kind' h k.1)
 list_once at epoch input t u Usage r a b h k = absurd a
+list_once at epoch input t u DiskFault r a b h k = absurd h
+list_once at epoch input t u (NotAJournal file at') r a b h k = absurd h
+list_once at epoch input t u (PlanDiffers name) r a b h k = absurd h
+list_once at epoch input t u (Full size) r a b h k = absurd h
+list_once at epoch input t u Worn r a b h k = absurd h
 list_once at epoch input t u OutOfMemory r a b h k = absurd a
 list_once at epoch input t u (Input place fault) Done a b h k = absurd (lists_or_break at epoch input u fault k h.2)
 list_once at epoch input t u (Input place fault) Usage a b h k = absurd b
+list_once at epoch input t u (Input place fault) DiskFault a b h k = absurd k
+list_once at epoch input t u (Input place fault) (NotAJournal file at') a b h k = absurd k
+list_once at epoch input t u (Input place fault) (PlanDiffers name) a b h k = absurd k
+list_once at epoch input t u (Input place fault) (Full size) a b h k = absurd k
+list_once at epoch input t u (Input place fault) Worn a b h k = absurd k
 list_once at epoch input t u (Input place fault) OutOfMemory a b h k = absurd b
 list_once at epoch input t u (Input place fault) (Input place' fault') a b h k = (both_empty t u h.0 k.0, one_place fault fault' place place' (one_break input fault fault' h.2 k.2) h.1 k.1)
 list_once at epoch input t u (Input place fault) ReadFault a b h k = absurd b
@@ -72,6 +87,11 @@ list_once at epoch input t u ReadFault r a b h k = absurd a
 list_once at epoch input t u WriteFault r a b h k = absurd a
 list_once at epoch input t u (Plan line kind) Done a b h k = absurd (lists_or_plan at epoch input u line kind k h.1)
 list_once at epoch input t u (Plan line kind) Usage a b h k = absurd b
+list_once at epoch input t u (Plan line kind) DiskFault a b h k = absurd k
+list_once at epoch input t u (Plan line kind) (NotAJournal file at') a b h k = absurd k
+list_once at epoch input t u (Plan line kind) (PlanDiffers name) a b h k = absurd k
+list_once at epoch input t u (Plan line kind) (Full size) a b h k = absurd k
+list_once at epoch input t u (Plan line kind) Worn a b h k = absurd k
 list_once at epoch input t u (Plan line kind) OutOfMemory a b h k = absurd b
 list_once at epoch input t u (Plan line kind) (Input place' fault') a b h k = absurd (break_or_plan input fault' line kind k.2 h.1)
 list_once at epoch input t u (Plan line kind) ReadFault a b h k = absurd b
@@ -81,6 +101,11 @@ list_once at epoch input t u (Plan line kind) (Plan line' kind') a b h k = (both
 list_writes : (at epoch : ℕ) (input t : List ℕ) (s : Status) → IsTold s → ListAnswers at epoch input t WriteFault → ListAnswers at epoch input [] s → ⊥
 list_writes at epoch input t Done a h k = h.0 (one_text at epoch input t [] h.1 k)
 list_writes at epoch input t Usage a h k = absurd a
+list_writes at epoch input t DiskFault a h k = k
+list_writes at epoch input t (NotAJournal file at') a h k = k
+list_writes at epoch input t (PlanDiffers name) a h k = k
+list_writes at epoch input t (Full size) a h k = k
+list_writes at epoch input t Worn a h k = k
 list_writes at epoch input t OutOfMemory a h k = absurd a
 list_writes at epoch input t (Input place fault) a h k = lists_or_break at epoch input t fault h.1 k.2
 list_writes at epoch input t ReadFault a h k = absurd a
@@ -90,6 +115,11 @@ list_writes at epoch input t (Plan line kind) a h k = lists_or_plan at epoch inp
 list_whole : (at epoch : ℕ) (input t : List ℕ) (s : Status) → IsWholeInput input → IsTold s → ListAnswers at epoch input t s → s ≡ Done
 list_whole at epoch input t Done w a h = refl
 list_whole at epoch input t Usage w a h = absurd a
+list_whole at epoch input t DiskFault w a h = absurd h
+list_whole at epoch input t (NotAJournal file at') w a h = absurd h
+list_whole at epoch input t (PlanDiffers name) w a h = absurd h
+list_whole at epoch input t (Full size) w a h = absurd h
+list_whole at epoch input t Worn w a h = absurd h
 list_whole at epoch input t OutOfMemory w a h = absurd a
 list_whole at epoch input t (Input place fault) w a h = absurd (whole_or_break input fault w h.2)
 list_whole at epoch input t ReadFault w a h = absurd a
@@ -97,4 +127,4 @@ list_whole at epoch input t WriteFault w a h = absurd a
 list_whole at epoch input t (Plan line kind) w a h = absurd (whole_or_plan_break input line kind w h.1)
 
 pub list_function : (at epoch : ℕ) → IsFunction (ListAnswers at epoch)
-list_function at epoch = record { once = list_once at epoch; whole = list_whole at epoch; writes = list_writes at epoch; words = λ input t h. h }
+list_function at epoch = record { once = list_once at epoch; whole = list_whole at epoch; writes = list_writes at epoch; words = λ input t h. h; files = λ input t h. h }

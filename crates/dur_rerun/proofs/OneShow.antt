@@ -17,7 +17,7 @@ use Rattle.dur_qos.proofs.Verdicts.{one_plan, plan_or_fault}
 use Rattle.rtps_message.specs.declared.heard.Heard.{Heard}
 use Rattle.rtps_message.proofs.Once.{hears_once}
 use Rattle.dur_rerun.specs.declared.status.Status.{Status}
-use Rattle.dur_rerun.specs.declared.status.Status.TheVariants.{Done, Usage, OutOfMemory, Input, ReadFault, WriteFault, Plan}
+use Rattle.dur_rerun.specs.declared.status.Status.TheVariants.{Done, Usage, OutOfMemory, Input, ReadFault, WriteFault, Plan, DiskFault, NotAJournal, PlanDiffers, Full, Worn}
 use Rattle.dur_rerun.specs.Command.{IsTold, IsFunction}
 use Rattle.dur_rerun.specs.Input.Breaks.{PlanBreaks, CaptureBreaks}
 use Rattle.dur_rerun.specs.Input.Prefix.{own_prefix}
@@ -109,15 +109,30 @@ moved epoch input t s x q m y =
 rest_once : (own : List ℕ) (before : ℕ) (octets t u : List ℕ) (s r : Status) → IsTold s → IsTold r → ShowsRest own before octets t s → ShowsRest own before octets u r → (t ≡ u) × (s ≡ r)
 rest_once own before octets t u Done Done a b h k = (all_once own before octets t u h k, refl)
 rest_once own before octets t u Done Usage a b h k = absurd b
+rest_once own before octets t u Done DiskFault a b h k = absurd k
+rest_once own before octets t u Done (NotAJournal file at') a b h k = absurd k
+rest_once own before octets t u Done (PlanDiffers name) a b h k = absurd k
+rest_once own before octets t u Done (Full size) a b h k = absurd k
+rest_once own before octets t u Done Worn a b h k = absurd k
 rest_once own before octets t u Done OutOfMemory a b h k = absurd b
 rest_once own before octets t u Done (Input place' fault') a b h k = absurd (all_or_break own before octets t u fault' h k.1)
 rest_once own before octets t u Done ReadFault a b h k = absurd b
 rest_once own before octets t u Done WriteFault a b h k = absurd b
 rest_once own before octets t u Done (Plan line' kind') a b h k = absurd k
 rest_once own before octets t u Usage r a b h k = absurd a
+rest_once own before octets t u DiskFault r a b h k = absurd h
+rest_once own before octets t u (NotAJournal file at') r a b h k = absurd h
+rest_once own before octets t u (PlanDiffers name) r a b h k = absurd h
+rest_once own before octets t u (Full size) r a b h k = absurd h
+rest_once own before octets t u Worn r a b h k = absurd h
 rest_once own before octets t u OutOfMemory r a b h k = absurd a
 rest_once own before octets t u (Input place fault) Done a b h k = absurd (all_or_break own before octets u t fault k h.1)
 rest_once own before octets t u (Input place fault) Usage a b h k = absurd b
+rest_once own before octets t u (Input place fault) DiskFault a b h k = absurd k
+rest_once own before octets t u (Input place fault) (NotAJournal file at') a b h k = absurd k
+rest_once own before octets t u (Input place fault) (PlanDiffers name) a b h k = absurd k
+rest_once own before octets t u (Input place fault) (Full size) a b h k = absurd k
+rest_once own before octets t u (Input place fault) Worn a b h k = absurd k
 rest_once own before octets t u (Input place fault) OutOfMemory a b h k = absurd b
 rest_once own before octets t u (Input place fault) (Input place' fault') a b h k = let same = break_once own before octets t u fault fault' h.1 k.1 in (same.0, one_place fault fault' place place' same.1 h.0 k.0)
 rest_once own before octets t u (Input place fault) ReadFault a b h k = absurd b
@@ -138,15 +153,30 @@ plan_or_behind epoch input t s line k x breaks = plan_or_fault input x.plan x.n 
 show_once : (epoch : ℕ) (input t u : List ℕ) (s r : Status) → IsTold s → IsTold r → ShowAnswers epoch input t s → ShowAnswers epoch input u r → (t ≡ u) × (s ≡ r)
 show_once epoch input t u Done Done a b h k = behind_once epoch input t u Done Done a b h k
 show_once epoch input t u Done Usage a b h k = absurd b
+show_once epoch input t u Done DiskFault a b h k = absurd k.rest
+show_once epoch input t u Done (NotAJournal file at') a b h k = absurd k.rest
+show_once epoch input t u Done (PlanDiffers name) a b h k = absurd k.rest
+show_once epoch input t u Done (Full size) a b h k = absurd k.rest
+show_once epoch input t u Done Worn a b h k = absurd k.rest
 show_once epoch input t u Done OutOfMemory a b h k = absurd b
 show_once epoch input t u Done (Input place' fault') a b h k = behind_once epoch input t u Done (Input place' fault') a b h k
 show_once epoch input t u Done ReadFault a b h k = absurd b
 show_once epoch input t u Done WriteFault a b h k = absurd b
 show_once epoch input t u Done (Plan line' kind') a b h k = absurd (plan_or_behind epoch input t Done line' kind' h k.1)
 show_once epoch input t u Usage r a b h k = absurd a
+show_once epoch input t u DiskFault r a b h k = absurd h.rest
+show_once epoch input t u (NotAJournal file at') r a b h k = absurd h.rest
+show_once epoch input t u (PlanDiffers name) r a b h k = absurd h.rest
+show_once epoch input t u (Full size) r a b h k = absurd h.rest
+show_once epoch input t u Worn r a b h k = absurd h.rest
 show_once epoch input t u OutOfMemory r a b h k = absurd a
 show_once epoch input t u (Input place fault) Done a b h k = behind_once epoch input t u (Input place fault) Done a b h k
 show_once epoch input t u (Input place fault) Usage a b h k = absurd b
+show_once epoch input t u (Input place fault) DiskFault a b h k = absurd k.rest
+show_once epoch input t u (Input place fault) (NotAJournal file at') a b h k = absurd k.rest
+show_once epoch input t u (Input place fault) (PlanDiffers name) a b h k = absurd k.rest
+show_once epoch input t u (Input place fault) (Full size) a b h k = absurd k.rest
+show_once epoch input t u (Input place fault) Worn a b h k = absurd k.rest
 show_once epoch input t u (Input place fault) OutOfMemory a b h k = absurd b
 show_once epoch input t u (Input place fault) (Input place' fault') a b h k = behind_once epoch input t u (Input place fault) (Input place' fault') a b h k
 show_once epoch input t u (Input place fault) ReadFault a b h k = absurd b
@@ -156,6 +186,11 @@ show_once epoch input t u ReadFault r a b h k = absurd a
 show_once epoch input t u WriteFault r a b h k = absurd a
 show_once epoch input t u (Plan line kind) Done a b h k = absurd (plan_or_behind epoch input u Done line kind k h.1)
 show_once epoch input t u (Plan line kind) Usage a b h k = absurd b
+show_once epoch input t u (Plan line kind) DiskFault a b h k = absurd k.rest
+show_once epoch input t u (Plan line kind) (NotAJournal file at') a b h k = absurd k.rest
+show_once epoch input t u (Plan line kind) (PlanDiffers name) a b h k = absurd k.rest
+show_once epoch input t u (Plan line kind) (Full size) a b h k = absurd k.rest
+show_once epoch input t u (Plan line kind) Worn a b h k = absurd k.rest
 show_once epoch input t u (Plan line kind) OutOfMemory a b h k = absurd b
 show_once epoch input t u (Plan line kind) (Input place' fault') a b h k = absurd (plan_or_behind epoch input u (Input place' fault') line kind k h.1)
 show_once epoch input t u (Plan line kind) ReadFault a b h k = absurd b
@@ -165,6 +200,11 @@ show_once epoch input t u (Plan line kind) (Plan line' kind') a b h k = (h.0 ∙
 rest_writes : (own : List ℕ) (before : ℕ) (octets t : List ℕ) (s : Status) → IsTold s → ShowsRest own before octets t WriteFault → ShowsRest own before octets [] s → ⊥
 rest_writes own before octets t Done a h k = all_or_read own before octets t k h.1 h.0
 rest_writes own before octets t Usage a h k = absurd a
+rest_writes own before octets t DiskFault a h k = k
+rest_writes own before octets t (NotAJournal file at') a h k = k
+rest_writes own before octets t (PlanDiffers name) a h k = k
+rest_writes own before octets t (Full size) a h k = k
+rest_writes own before octets t Worn a h k = k
 rest_writes own before octets t OutOfMemory a h k = absurd a
 rest_writes own before octets t (Input place fault) a h k = break_or_read own before octets t fault k.1 h.1 h.0
 rest_writes own before octets t ReadFault a h k = absurd a
@@ -177,6 +217,11 @@ behind_writes epoch input t s a h k = rest_writes (own_prefix epoch k.plan) k.n 
 show_writes : (epoch : ℕ) (input t : List ℕ) (s : Status) → IsTold s → ShowAnswers epoch input t WriteFault → ShowAnswers epoch input [] s → ⊥
 show_writes epoch input t Done a h k = behind_writes epoch input t Done a h k
 show_writes epoch input t Usage a h k = absurd a
+show_writes epoch input t DiskFault a h k = k.rest
+show_writes epoch input t (NotAJournal file at') a h k = k.rest
+show_writes epoch input t (PlanDiffers name) a h k = k.rest
+show_writes epoch input t (Full size) a h k = k.rest
+show_writes epoch input t Worn a h k = k.rest
 show_writes epoch input t OutOfMemory a h k = absurd a
 show_writes epoch input t (Input place fault) a h k = behind_writes epoch input t (Input place fault) a h k
 show_writes epoch input t ReadFault a h k = absurd a
@@ -189,6 +234,11 @@ show_break epoch input t place e h = record { plan = h.plan; n = h.n; plan_is = 
 show_whole : (epoch : ℕ) (input t : List ℕ) (s : Status) → IsWholeInput input → IsTold s → ShowAnswers epoch input t s → s ≡ Done
 show_whole epoch input t Done w a h = refl
 show_whole epoch input t Usage w a h = absurd a
+show_whole epoch input t DiskFault w a h = absurd h.rest
+show_whole epoch input t (NotAJournal file at') w a h = absurd h.rest
+show_whole epoch input t (PlanDiffers name) w a h = absurd h.rest
+show_whole epoch input t (Full size) w a h = absurd h.rest
+show_whole epoch input t Worn w a h = absurd h.rest
 show_whole epoch input t OutOfMemory w a h = absurd a
 show_whole epoch input t (Input place fault) w a h = absurd (whole_or_break input fault w (show_break epoch input t place fault h))
 show_whole epoch input t ReadFault w a h = absurd a
@@ -196,4 +246,4 @@ show_whole epoch input t WriteFault w a h = absurd a
 show_whole epoch input t (Plan line kind) w a h = absurd (whole_or_plan_break input line kind w h.1)
 
 pub show_function : (epoch : ℕ) → IsFunction (ShowAnswers epoch)
-show_function epoch = record { once = show_once epoch; whole = show_whole epoch; writes = show_writes epoch; words = λ input t h. h.rest }
+show_function epoch = record { once = show_once epoch; whole = show_whole epoch; writes = show_writes epoch; words = λ input t h. h.rest; files = λ input t h. h.rest }

@@ -14,7 +14,7 @@ use Rattle.rtps_message.specs.declared.heard.Heard.{Heard}
 use Rattle.rtps_message.specs.Messages.{Hears}
 use Rattle.dur_rerun.specs.declared.show.printer.Printer.{Printer}
 use Rattle.dur_rerun.specs.declared.status.Status.{Status}
-use Rattle.dur_rerun.specs.declared.status.Status.TheVariants.{Done, Usage, OutOfMemory, Input, ReadFault, WriteFault, Plan}
+use Rattle.dur_rerun.specs.declared.status.Status.TheVariants.{Done, Usage, OutOfMemory, Input, ReadFault, WriteFault, Plan, DiskFault, NotAJournal, PlanDiffers, Full, Worn}
 use Rattle.dur_rerun.specs.Command.{GoesOut}
 use Rattle.dur_rerun.specs.Saying.{IsSaid, wrote}
 use Rattle.dur_rerun.specs.Input.Breaks.{capture_status, EndsRefill}
@@ -268,6 +268,11 @@ stopped (Input place fault) own before octets sent held tells first old new h en
     all_out (ShowsRest own before) octets h.text (Input place fault) tells first new (ends, record { records = h.records; feed = h.feed; read = h.feeds; breaks = h.breaks.1; shows = h.shows }) (λ t. all_held h.text sent held first old new h.text_is (written t) (said t))
 stopped Done own before octets sent held tells first old new h ends written said = absurd ends
 stopped Usage own before octets sent held tells first old new h ends written said = absurd ends
+stopped DiskFault own before octets sent held tells first old new h ends written said = absurd ends
+stopped (NotAJournal file at') own before octets sent held tells first old new h ends written said = absurd ends
+stopped (PlanDiffers name) own before octets sent held tells first old new h ends written said = absurd ends
+stopped (Full size) own before octets sent held tells first old new h ends written said = absurd ends
+stopped Worn own before octets sent held tells first old new h ends written said = absurd ends
 stopped ReadFault own before octets sent held tells first old new h ends written said = absurd ends
 stopped WriteFault own before octets sent held tells first old new h ends written said = absurd ends
 stopped (Plan line kind) own before octets sent held tells first old new h ends written said = absurd ends
@@ -278,6 +283,11 @@ breaks_more OutOfMemory f more b = tt
 breaks_more (Input place fault) f more b = (b.0, breaks_stay fault f more b.1)
 breaks_more Done f more b = absurd b
 breaks_more Usage f more b = absurd b
+breaks_more DiskFault f more b = absurd b
+breaks_more (NotAJournal file at') f more b = absurd b
+breaks_more (PlanDiffers name) f more b = absurd b
+breaks_more (Full size) f more b = absurd b
+breaks_more Worn f more b = absurd b
 breaks_more ReadFault f more b = absurd b
 breaks_more WriteFault f more b = absurd b
 breaks_more (Plan line kind) f more b = absurd b
@@ -316,6 +326,11 @@ refill_answer OutOfMemory own before octets text ends r = r
 refill_answer ReadFault own before octets text ends r = r
 refill_answer Done own before octets text ends r = absurd ends
 refill_answer Usage own before octets text ends r = absurd ends
+refill_answer DiskFault own before octets text ends r = absurd ends
+refill_answer (NotAJournal file at') own before octets text ends r = absurd ends
+refill_answer (PlanDiffers name) own before octets text ends r = absurd ends
+refill_answer (Full size) own before octets text ends r = absurd ends
+refill_answer Worn own before octets text ends r = absurd ends
 refill_answer WriteFault own before octets text ends r = absurd ends
 refill_answer (Input place fault) own before octets text ends r = absurd ends
 refill_answer (Plan line kind) own before octets text ends r = absurd ends

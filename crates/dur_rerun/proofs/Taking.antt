@@ -1,5 +1,5 @@
 -- The records of a capture, handed to a hub as they are read.
-use Rattle.std.proofs.Common.{◌≡◌, ℕ, ◌+◌, ◌≤◌, ◌^◌, List, [], ◌∷◌, ◌++◌, length, Bool, true, false, Option, None, Some, refl, sym, ap, subst, ◌∙◌, append_assoc, append-nil, length-append, arith, ◌⊎◌, inl, inr}
+use Rattle.std.proofs.Common.{◌≡◌, ℕ, ◌≤◌, ◌^◌, List, [], ◌∷◌, ◌++◌, Bool, true, false, Option, None, Some, refl, sym, ap, subst, ◌∙◌, append_assoc, append-nil, length-append, arith, ◌⊎◌, inl, inr}
 use Rattle.std.specs.Prelude.{IfSome}
 use Rattle.std.specs.Io.KnownBytes.{Consumes, IsAtEnd}
 use Rattle.std.proofs.KnownBytes.{Consumes-trans}
@@ -14,10 +14,10 @@ use Rattle.dur_hub.specs.declared.hub.Hub.{Hub}
 use Rattle.dur_hub.specs.Runs.{Run}
 use Rattle.dur_hub.specs.Hubs.{Stands, Adds}
 use Rattle.dur_rerun.specs.declared.status.Status.{Status}
-use Rattle.dur_rerun.specs.declared.status.Status.TheVariants.{Done, Usage, OutOfMemory as Memory, Input, ReadFault, WriteFault, Plan}
+use Rattle.dur_rerun.specs.declared.status.Status.TheVariants.{Done, Usage, OutOfMemory as Memory, Input, ReadFault, WriteFault, Plan, DiskFault, NotAJournal, PlanDiffers, Full, Worn}
 use Rattle.dur_rerun.specs.Admission.{BringAll}
 use Rattle.dur_rerun.specs.Input.Breaks.{place_at, EndsRecords}
-use Rattle.dur_rerun.specs.Input.Records.{given, HandsOut, Ends, BreaksOff, StopsRecords}
+use Rattle.dur_rerun.specs.Input.Records.{given, Ends, BreaksOff, StopsRecords}
 use Rattle.dur_rerun.specs.List.History.{TakesWhole, StopsRest}
 use Rattle.dur_rerun.proofs.Commands.{if_any}
 use Rattle.dur_rerun.proofs.Rest.{told, all_told}
@@ -35,7 +35,7 @@ feeds_first f fresh = record {
 }
 
 -- the octets that a source gave to a feed
-feeds_given : (before : ℕ) (octets seen piece : List ℕ) (rs : List Record) (f : Feeding) → Feeds before (octets ++ seen) rs f → Feeds before (octets ++ (seen ++ piece)) rs (given piece f)
+pub feeds_given : (before : ℕ) (octets seen piece : List ℕ) (rs : List Record) (f : Feeding) → Feeds before (octets ++ seen) rs f → Feeds before (octets ++ (seen ++ piece)) rs (given piece f)
 feeds_given before octets seen piece rs f feeds = subst (λ (t : List ℕ). Feeds before t rs (given piece f)) (append_assoc octets seen piece) (takes_octets before (octets ++ seen) rs f piece feeds)
 
 -- a record that was handed out
@@ -59,7 +59,7 @@ takes_whole own before known mid now octets seen rs f g es first hub consumed fe
 
 -- ---- where the capture breaks off
 
-no_place : (e : CapFault) (place : ℕ) → place_at e ≡ Some place → e ≡ OutOfMemory → ⊥
+pub no_place : (e : CapFault) (place : ℕ) → place_at e ≡ Some place → e ≡ OutOfMemory → ⊥
 no_place e place named memory = let none : None ≡ Some place = sym (ap place_at memory) ∙ named in absurd cc
 
 break_is : (before : ℕ) (octets : List ℕ) (e : CapFault) (place : ℕ) (rs : List Record) (f : Feeding) → place_at e ≡ Some place → Feeds before octets rs f → (e ≡ OutOfMemory) ⊎ Breaks f true e → BreaksAt before octets true e
@@ -92,6 +92,11 @@ stops_rest Memory before known mid now octets seen rs f consumed feeds ends stop
 stops_rest ReadFault before known mid now octets seen rs f consumed feeds ends stops = if_any known (λ tail. Unit {0}) (λ tail. tt)
 stops_rest Done before known mid now octets seen rs f consumed feeds ends stops = absurd ends
 stops_rest Usage before known mid now octets seen rs f consumed feeds ends stops = absurd ends
+stops_rest DiskFault before known mid now octets seen rs f consumed feeds ends stops = absurd ends
+stops_rest (NotAJournal file at') before known mid now octets seen rs f consumed feeds ends stops = absurd ends
+stops_rest (PlanDiffers name) before known mid now octets seen rs f consumed feeds ends stops = absurd ends
+stops_rest (Full size) before known mid now octets seen rs f consumed feeds ends stops = absurd ends
+stops_rest Worn before known mid now octets seen rs f consumed feeds ends stops = absurd ends
 stops_rest WriteFault before known mid now octets seen rs f consumed feeds ends stops = absurd ends
 stops_rest (Plan line kind) before known mid now octets seen rs f consumed feeds ends stops = absurd ends
 

@@ -1,17 +1,15 @@
 -- What came determines the turns, and over a session they end.
-use Rattle.std.proofs.Common.{◌≡◌, ◌≤◌, ◌<◌, ◌+◌, ◌*◌, ℕ, zero, suc, Bool, true, false, List, [], ◌∷◌, ◌++◌, length, Option, Some, None, refl, sym, ap, subst, ◌∙◌, arith, map, append-nil}
+use Rattle.std.proofs.Common.{◌≡◌, ◌≤◌, ◌+◌, ◌*◌, ℕ, zero, suc, Bool, true, false, List, [], ◌∷◌, ◌++◌, length, Option, Some, None, refl, sym, ap, subst, ◌∙◌, arith, append-nil}
 use Rattle.std.specs.Prelude.{◌||◌}
 use Rattle.std.proofs.Math.Nat.{lt_of_not-le}
-use Rattle.dur_base.specs.declared.fact.Fact.{Fact}
 use Rattle.dur_view.specs.declared.change.Change.{Change}
 use Rattle.rtps_message.specs.declared.heard.Heard.{Heard}
 use Rattle.rtps_message.proofs.Once.{hears_once}
 use Rattle.rel_writer.specs.declared.ids.Ids.{Ids}
-use Rattle.rel_writer.specs.Replays.{sent}
-use Rattle.rel_writer.specs.LateReaders.{Late, LateHears, IsNack, asked, fresh}
+use Rattle.rel_writer.specs.LateReaders.{Late, LateHears, asked}
 use Rattle.rel_writer.specs.Sets.{any_marker}
-use Rattle.rel_writer.specs.Sessions.{Sending, opened}
-use Rattle.rel_writer.specs.Turns.{Link, Receives, AsksIf, Turns, Turn as LinkTurn, Fits, begin}
+use Rattle.rel_writer.specs.Sessions.{Sending}
+use Rattle.rel_writer.specs.Turns.{Link, Receives, AsksIf, Turns, Turn as LinkTurn, begin}
 use Rattle.rel_writer.proofs.HearsFacts.{one_way}
 use Rattle.rel_writer.proofs.Asking.{one_nack}
 use Rattle.rel_writer.proofs.Ending.{ends_in_time}

@@ -1,14 +1,13 @@
 -- Turns of a late reader, step by step.
-use Rattle.std.proofs.Common.{◌≡◌, ◌≤◌, ◌+◌, ℕ, Bool, true, false, List, [], ◌∷◌, ◌++◌, length, Option, Some, None, Result, refl, sym, ap, subst, ◌∙◌, arith, map, append-nil, append_assoc}
+use Rattle.std.proofs.Common.{◌≡◌, ◌≤◌, ◌+◌, ℕ, Bool, true, false, List, [], ◌∷◌, ◌++◌, length, Option, Some, None, Result, refl, sym, ap, subst, ◌∙◌, arith, append-nil, append_assoc}
 use Rattle.std.specs.Prelude.{◌||◌, OnOk, Ok, Err}
-use Rattle.std.specs.List.{flat_map}
 use Rattle.std.proofs.lemmas.List.{map-append}
 use Rattle.std.proofs.lemmas.Grind.{flat_map-append}
 use Rattle.rel_writer.specs.declared.late.LateReader.{LateReader}
 use Rattle.rel_writer.specs.LateReaders.{Late, IsNack, asked}
 use Rattle.rel_writer.specs.Sets.{any_marker}
 use Rattle.rel_writer.specs.Standing.{Stands, HearsBytes}
-use Rattle.dur_rerun.specs.Late.Turns.{Turn, Takes, TakesAll, SendsIf, answers, nacks}
+use Rattle.dur_rerun.specs.Late.Turns.{Turn, Takes, TakesAll, answers, nacks}
 use Rattle.dur_rerun.specs.Late.Steps.{HearsOf, SendsOf, TakesOf, IsCutShort, Went, GoesOn, GoesTo, StopsIn}
 
 -- ---- one turn

@@ -11,7 +11,7 @@ use Rattle.dur_qos.specs.Text.{PlanText, line_text}
 use Rattle.dur_rerun.specs.declared.input.plan.Opened.{Opened}
 use Rattle.dur_rerun.specs.declared.show.printer.Printer.{Printer}
 use Rattle.dur_rerun.specs.declared.status.Status.{Status}
-use Rattle.dur_rerun.specs.declared.status.Status.TheVariants.{Done, Usage, OutOfMemory, Input, ReadFault, WriteFault, Plan}
+use Rattle.dur_rerun.specs.declared.status.Status.TheVariants.{Done, Usage, OutOfMemory, Input, ReadFault, WriteFault, Plan, DiskFault, NotAJournal, PlanDiffers, Full, Worn}
 use Rattle.dur_rerun.specs.Command.{GoesOut}
 use Rattle.dur_rerun.specs.Input.Breaks.{EndsPlan, StopsPlan}
 use Rattle.dur_rerun.specs.Input.Plan.{Opens}
@@ -53,6 +53,11 @@ behind (Some all) (Some tail) seen P Q consumed holds leads = subst P (sym consu
 shows_behind : (s : Status) (epoch : ℕ) (input text : List ℕ) → ShowsBehind epoch input text s → ShowAnswers epoch input text s
 shows_behind Done epoch input text h = h
 shows_behind Usage epoch input text h = h
+shows_behind DiskFault epoch input text h = h
+shows_behind (NotAJournal file at') epoch input text h = h
+shows_behind (PlanDiffers name) epoch input text h = h
+shows_behind (Full size) epoch input text h = h
+shows_behind Worn epoch input text h = h
 shows_behind OutOfMemory epoch input text h = inr h
 shows_behind (Input place fault) epoch input text h = h
 shows_behind ReadFault epoch input text h = inr h
@@ -100,6 +105,11 @@ plan_shows ReadFault epoch input ends stops = inl refl
 plan_shows (Plan line k) epoch input ends stops = (refl, stops)
 plan_shows Done epoch input ends stops = absurd ends
 plan_shows Usage epoch input ends stops = absurd ends
+plan_shows DiskFault epoch input ends stops = absurd ends
+plan_shows (NotAJournal file at') epoch input ends stops = absurd ends
+plan_shows (PlanDiffers name) epoch input ends stops = absurd ends
+plan_shows (Full size) epoch input ends stops = absurd ends
+plan_shows Worn epoch input ends stops = absurd ends
 plan_shows WriteFault epoch input ends stops = absurd ends
 plan_shows (Input place fault) epoch input ends stops = absurd ends
 
@@ -109,6 +119,11 @@ plan_show_ends ReadFault ends = tt
 plan_show_ends (Plan line k) ends = ends
 plan_show_ends Done ends = absurd ends
 plan_show_ends Usage ends = absurd ends
+plan_show_ends DiskFault ends = absurd ends
+plan_show_ends (NotAJournal file at') ends = absurd ends
+plan_show_ends (PlanDiffers name) ends = absurd ends
+plan_show_ends (Full size) ends = absurd ends
+plan_show_ends Worn ends = absurd ends
 plan_show_ends WriteFault ends = absurd ends
 plan_show_ends (Input place fault) ends = absurd ends
 
@@ -119,4 +134,9 @@ rest_show_ends ReadFault ends = tt
 rest_show_ends WriteFault ends = tt
 rest_show_ends (Input place fault) ends = ends
 rest_show_ends Usage ends = absurd ends
+rest_show_ends DiskFault ends = absurd ends
+rest_show_ends (NotAJournal file at') ends = absurd ends
+rest_show_ends (PlanDiffers name) ends = absurd ends
+rest_show_ends (Full size) ends = absurd ends
+rest_show_ends Worn ends = absurd ends
 rest_show_ends (Plan line k) ends = absurd ends

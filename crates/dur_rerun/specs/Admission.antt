@@ -1,5 +1,5 @@
 -- What the records of a capture bring to a hub: each is one `receive` of the facts of its datagram, at its moment.
-use Rattle.std.specs.Prelude.{◌≡◌, ℕ, false, List, [], ◌∷◌, ◌++◌}
+use Rattle.std.specs.Prelude.{◌≡◌, ℕ, false, List, [], ◌∷◌, ◌++◌, length}
 use Rattle.dur_base.specs.declared.fact.Fact.{Fact}
 use Rattle.dur_capture.specs.declared.record.Record.{Record}
 use Rattle.rtps_message.specs.declared.heard.Heard.{Heard}
@@ -12,6 +12,9 @@ use Rattle.dur_hub.specs.Handed.{acks_by}
 use Rattle.dur_hub.specs.Hubs.{Adds}
 use Rattle.dur_hub.specs.Runs.{Run}
 use Rattle.dur_hub.specs.Legal.{facts_of, Legal, run_after}
+use Rattle.dur_hub.specs.Readings.{refusals_by}
+use Rattle.dur_rerun.specs.declared.rerun.nacks.Nack.{Nack}
+use Rattle.dur_rerun.specs.Rerun.Replies.{nacks}
 
 -- a `receive` of these facts at this moment, for which memory was not wanting
 abbrev pub IsWhole : ℕ → List Fact → Event → Type 0
@@ -24,11 +27,15 @@ pub record Brings (own : List ℕ) (r : Record) (e : Event) : Type 0 where
   pub hears : Hears own r.bytes heard
   pub whole : IsWhole r.moment heard.facts e
 
--- What one record does to a hub: it is called once for the record, and the reply has what that call acknowledges.
-pub record Admitted (own : List ℕ) (r : Record) (reply : Received) (old new : Hub) : Type 0 where
+-- What one record does to a hub: it is called once for the record, and the reply has what that call acknowledges and refuses.
+-- Beside it stand the ACKNACKs that the record tells.
+pub record Admitted (own : List ℕ) (r : Record) (reply : Received) (asked : List Nack) (old new : Hub) : Type 0 where
   pub call : Event
   pub brings : Brings own r call
   pub acks : reply.acks ≡ acks_by call
+  pub refused : reply.refused ≡ refusals_by call
+  pub handled : reply.handled ≡ length brings.heard.facts
+  pub nacks_are : asked ≡ nacks brings.heard.facts
   pub adds : Adds old call new
 
 -- the calls for records, in their order

@@ -6,24 +6,29 @@ use Rattle.std.specs.Io.KnownBytes.{IsAtEnd}
 use Rattle.dur_outside.specs.World.{Image}
 use Rattle.dur_outside.specs.Causes.{Rose}
 use Rattle.dur_rerun.specs.declared.status.Status.{Status}
-use Rattle.dur_rerun.specs.declared.status.Status.TheVariants.{Done, Usage, OutOfMemory, Input, ReadFault, WriteFault, Plan}
+use Rattle.dur_rerun.specs.declared.status.Status.TheVariants.{Done, Usage, OutOfMemory, Input, ReadFault, WriteFault, DiskFault, Plan, NotAJournal, PlanDiffers, Full, Worn}
 use Rattle.dur_rerun.specs.Input.Whole.{IsWholeInput}
 use Rattle.dur_rerun.specs.Saying.{IsSaid, wrote}
 
--- What a command answers: an input, the text for it, and the status. Where a fault of the source or of the sink or want
--- of memory cut the run short, the text is that of what was read.
+-- What a command answers: an input, the text for it, and the status. Where a fault of the source, of the sink or of the
+-- disk or want of memory cut the run short, the text is that of what was read.
 abbrev pub Answers : Type 1
 Answers = List ℕ → List ℕ → Status → Type 0
 
--- the status says what the input calls for; the other ones cut a run short
+-- the status says what the input and the files call for; the other ones cut a run short
 abbrev pub IsTold : Status → Type 0
 IsTold Done = Unit {0}
 IsTold (Input place fault) = Unit {0}
 IsTold (Plan line kind) = Unit {0}
+IsTold (NotAJournal file place) = Unit {0}
+IsTold (PlanDiffers name) = Unit {0}
+IsTold (Full size) = Unit {0}
+IsTold Worn = Unit {0}
 IsTold Usage = ⊥
 IsTold OutOfMemory = ⊥
 IsTold ReadFault = ⊥
 IsTold WriteFault = ⊥
+IsTold DiskFault = ⊥
 
 -- what became of a run that ends early by an error
 abbrev pub status_of : Result (Unit {0}) Status → Status
@@ -40,6 +45,8 @@ pub record IsFunction (answers : List ℕ → List ℕ → Status → Type 0) : 
   pub writes : (input t : List ℕ) (s : Status) → IsTold s → answers input t WriteFault → answers input [] s → ⊥
   -- a command line is read before any command
   pub words : (input t : List ℕ) → answers input t Usage → ⊥
+  -- no file is read
+  pub files : (input t : List ℕ) → answers input t DiskFault → ⊥
 
 -- Each status has its reason.
 pub record HasReason (Ends : Status → Type 0) (s : Status) (left : Option (List ℕ)) (reads reads_now writes writes_now : ℕ) : Type 0 where
@@ -61,8 +68,8 @@ pub record Arrives (gives : List ℕ → List ℕ → Status → Type 0) (input 
   -- no read failed, and there is nothing to write
   pub silent : (a : Status) → IsTold a → gives input [] a → (Rose reads reads_now → ⊥) → (s ≡ a) ⊎ (s ≡ OutOfMemory)
 
--- What went out is all of the text, or a front.
-pub record GoesOut (gives : List ℕ → List ℕ → Status → Type 0) (input : List ℕ) (s : Status) (tells : Type 0) (old new : Image) : Type 0 where
+-- What went out is all of the text, or a front. The input is octets, or what else a command reads.
+pub record GoesOut {I : Type 0} (gives : I → List ℕ → Status → Type 0) (input : I) (s : Status) (tells : Type 0) (old new : Image) : Type 0 where
   pub text : List ℕ
   -- it is the text for the input, and the status is that of the run
   pub answers : gives input text s

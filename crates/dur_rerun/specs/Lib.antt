@@ -1,5 +1,6 @@
 pub mod Admission
 pub mod Command
+pub mod Files
 pub mod Input
 pub mod Late
 pub mod List

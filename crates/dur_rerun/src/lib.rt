@@ -8,13 +8,14 @@ mod input;
 pub mod late;
 pub mod list;
 mod output;
-mod rerun;
+pub mod rerun;
 pub mod show;
 mod status;
 mod text;
 
 pub use output::say;
 pub use status::{Ran, Status};
+pub use text::digit_of;
 
 #[cfg(test)]
 mod tests;

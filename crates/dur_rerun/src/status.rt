@@ -4,12 +4,13 @@ ghost use Rattle.std.specs.Prelude.{◌≡◌};
 ghost use Rattle.dur_rerun.specs.declared.status.Status.TheVariants as status;
 ghost use Rattle.dur_rerun.specs.Command.{status_of};
 
-use dur_base::OutOfMemory;
+use dur_base::{Name, OutOfMemory};
 use dur_capture::CapFault;
+use dur_outside::FileId;
 use dur_qos::PlanKind;
 
 /// What became of a run.
-#[derive(Clone, Copy, Debug, PartialEq, Eq, Drop)]
+#[derive(Debug, Drop)]
 pub enum Status {
     /// The input was read to its end, and all of the text was written.
     Done,
@@ -27,6 +28,16 @@ pub enum Status {
     /// The plan's text first breaks in the line with this number, from 1, with this fault, which is never
     /// `OutOfMemory`.
     Plan(u32, PlanKind),
+    /// A call on a file failed.
+    DiskFault,
+    /// That file is no journal. The number is the place in octets at which it first breaks.
+    NotAJournal(FileId, u64),
+    /// The plan differs from the journal by the topic of that name.
+    PlanDiffers(Name),
+    /// The journal's next text is longer than a file may be. The number is its length in octets.
+    Full(u64),
+    /// No generation is left for the journal's next file.
+    Worn,
 }
 
 impl From<OutOfMemory> for Status {

@@ -56,7 +56,7 @@ fn run(alloc: Global, plan: &[u8], first: &[u8], second: &[u8]) -> (Status, MemS
 #[test]
 fn each_record_has_its_line(rt: HostRuntime) {
     let (status, out) = run(rt.alloc(), PLAN, BOTH, SHORT);
-    assert!(rt; status == Status::Done);
+    assert!(rt; matches!(&status, Status::Done));
     assert!(rt;
         out.written().as_slice()
             == b"1 6 0 1 stopped 53 BothDataAndKey\n2 7 0 0 badheader\n".as_slice()
@@ -67,9 +67,9 @@ fn each_record_has_its_line(rt: HostRuntime) {
 fn what_breaks_first_is_named(rt: HostRuntime) {
     let alloc = rt.alloc();
     let (status, _) = run(alloc, b"prefix 0102030405060708\n", b"end", b"");
-    assert!(rt; status == Status::Plan(2, PlanKind::Word));
+    assert!(rt; matches!(&status, Status::Plan(2, PlanKind::Word)));
     let (status, out) = run(alloc, PLAN, SHORT, b"\x00\x00\x00\x00\x00");
-    assert!(rt; status == Status::Input(33, CapFault::EndsInside(33)));
+    assert!(rt; matches!(&status, Status::Input(33, CapFault::EndsInside(33))));
     assert!(rt; out.written().as_slice() == b"1 7 0 0 badheader\n".as_slice());
 }
 
@@ -79,7 +79,7 @@ fn a_written_sample_is_listed(rt: HostRuntime) {
     let mut input = source(alloc, PLAN, WRITTEN, b"");
     let ran = list(alloc, Ticks(0), 0, &mut input, rig(alloc));
     let (_, out) = ran.rig.parts();
-    assert!(rt; ran.status == Status::Done);
+    assert!(rt; matches!(&ran.status, Status::Done));
     assert!(rt;
         out.written().as_slice()
             == b"T a1a1a1a1a1a1a1a1a1a1a1a100000102 1 aaaaaaaaaaaaaaaaaaaaaaaaaaaaaaaa write 9 000100002a000000\n".as_slice()

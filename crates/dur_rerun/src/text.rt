@@ -2,8 +2,10 @@
 
 ghost use Rattle.std.specs.Prelude.{◌≡◌, ◌++◌, OnOk};
 ghost use Rattle.std.specs.Fmt.{decimal};
+ghost use Rattle.dur_rerun.specs.Files.{file_digit};
 
 use dur_base::OutOfMemory;
+use dur_outside::FileId;
 use itoa::Buffer;
 
 /// Appends these octets.
@@ -20,4 +22,14 @@ pub fn append_number(out: &mut Vec<u8>, number: u64) -> Result<(), OutOfMemory>
 {
     let mut digits = Buffer::new();
     append(out, digits.format(number).as_bytes())
+}
+
+/// The digit of a file: 0 or 1.
+pub fn digit_of(file: FileId) -> &'static [u8]
+    ensures { result.now ≡ file_digit file }
+{
+    match file {
+        FileId::Zero => b"0",
+        FileId::One => b"1",
+    }
 }

@@ -20,14 +20,14 @@ fn main(rt: HostRuntime) -> ExitCode {
         Ok(words) => words,
         Err(error) => {
             let status = status_of_words(&error);
-            say_fault(&mut err, status);
-            return ExitCode::from(number(status));
+            say_fault(&mut err, &status);
+            return ExitCode::from(number(&status));
         }
     };
     let mut input = StdSource::new(rt.stdin());
     let rig = OutputRig::new(StdSink::new(rt.stdout()));
     let ran = durability(rt.alloc(), &words, &mut input, rig, &mut err);
-    ExitCode::from(number(ran.status))
+    ExitCode::from(number(&ran.status))
 }
 
 /// The status where the words cannot be had: a word that is no UTF-8 is a faulty command line.

@@ -39,7 +39,7 @@ fn told<R: Rig, E: Sink>(ran: Ran<R>, err: &mut E) -> Ran<R>
     ensures told { E.tells → (Rose (E.sink_faults err.old) (E.sink_faults err.new) → ⊥)
         → (E.world err.new).now ≡ wrote (fault_line ran.status) (E.world err.old).now }
 {
-    say_fault(err, ran.status);
+    say_fault(err, &ran.status);
     ran
 }
 

@@ -3,11 +3,11 @@
 mod rows;
 
 use crate::run::durability;
-use crate::status::number;
+use crate::status::{number, say_fault};
 use crate::words::{Line, WordsFault, read_words};
-use dur_base::{List, Octets, OutOfMemory, Ticks};
+use dur_base::{List, Name, Octets, OutOfMemory, Ticks, is_a_name};
 use dur_capture::CapFault;
-use dur_outside::{MemDisk, MemRig, MemSink, MemSource};
+use dur_outside::{FileId, MemDisk, MemRig, MemSink, MemSource};
 use dur_qos::PlanKind;
 use dur_rerun::{Status, list, show};
 use std::alloc::Global;
@@ -90,9 +90,9 @@ fn run(alloc: Global, word: &str, first: &[u8], second: &[u8], fails: Fails) -> 
     }
 }
 
-/// A run of `list` whose output is this.
-fn gives(done: &Outcome, status: Status, out: &[u8], err: &[u8]) -> bool {
-    done.status == status
+/// A run with this status, output and line.
+fn gives(done: &Outcome, status: &Status, out: &[u8], err: &[u8]) -> bool {
+    number(&done.status) == number(status)
         && done.out.written().as_slice() == out
         && done.err.written().as_slice() == err
 }
@@ -101,9 +101,9 @@ fn gives(done: &Outcome, status: Status, out: &[u8], err: &[u8]) -> bool {
 fn the_newest_of_a_key_is_listed(rt: HostRuntime) {
     let alloc = rt.alloc();
     let done = run(alloc, "list", FIRST, SECOND, none(alloc));
-    assert!(rt; gives(&done, Status::Done, LINE, b""));
+    assert!(rt; gives(&done, &Status::Done, LINE, b""));
     let done = run(alloc, "list", SHORT, b"", none(alloc));
-    assert!(rt; gives(&done, Status::Done, b"", b""));
+    assert!(rt; gives(&done, &Status::Done, b"", b""));
     list::one_answer();
     show::one_answer();
 }
@@ -112,7 +112,7 @@ fn the_newest_of_a_key_is_listed(rt: HostRuntime) {
 fn other_words_are_refused(rt: HostRuntime) {
     let alloc = rt.alloc();
     let done = run(alloc, "lists", FIRST, b"", none(alloc));
-    assert!(rt; gives(&done, Status::Usage, b"", b"durability: usage\n"));
+    assert!(rt; gives(&done, &Status::Usage, b"", b"durability: usage\n"));
 }
 
 /// The words after the program's name.
@@ -164,7 +164,7 @@ fn nothing_is_listed_where_the_capture_breaks(rt: HostRuntime) {
     assert!(rt;
         gives(
             &done,
-            Status::Input(90, CapFault::EndsInside(90)),
+            &Status::Input(90, CapFault::EndsInside(90)),
             b"",
             b"durability: input 90 EndsInside\n"
         )
@@ -175,17 +175,17 @@ fn nothing_is_listed_where_the_capture_breaks(rt: HostRuntime) {
 fn records_are_shown_up_to_a_break(rt: HostRuntime) {
     let alloc = rt.alloc();
     let done = run(alloc, "show", BEAT, b"", none(alloc));
-    assert!(rt; gives(&done, Status::Done, b"1 5 0 1 whole\n", b""));
+    assert!(rt; gives(&done, &Status::Done, b"1 5 0 1 whole\n", b""));
     let done = run(alloc, "show", BEAT, b"\x00\x00\x00\x00\x00", none(alloc));
     assert!(rt;
         gives(
             &done,
-            Status::Input(66, CapFault::EndsInside(66)),
+            &Status::Input(66, CapFault::EndsInside(66)),
             b"1 5 0 1 whole\n",
             b"durability: input 66 EndsInside\n"
         )
     );
-    assert!(rt; number(done.status) == 4);
+    assert!(rt; number(&done.status) == 4);
 }
 
 /// The head of a record of 65,508 octets.
@@ -198,7 +198,7 @@ fn a_datagram_is_no_longer_than_udp_has_it(rt: HostRuntime) {
     assert!(rt;
         gives(
             &done,
-            Status::Input(10, CapFault::LongDatagram(10)),
+            &Status::Input(10, CapFault::LongDatagram(10)),
             b"",
             b"durability: input 10 LongDatagram\n"
         )
@@ -233,16 +233,44 @@ fn a_plan_is_told_where_it_breaks(rt: HostRuntime) {
     let alloc = rt.alloc();
     let deep = b"topic T transient hash 3 - - 2 - 0\n";
     assert!(rt;
-        over_plan(alloc, "list", deep, WRITER) == Status::Plan(2, PlanKind::DepthAboveLimit)
+        matches!(
+            &over_plan(alloc, "list", deep, WRITER),
+            Status::Plan(2, PlanKind::DepthAboveLimit)
+        )
     );
     let zero = b"topic T transient hash 01 - - - - 0\n";
-    assert!(rt; over_plan(alloc, "show", zero, WRITER) == Status::Plan(2, PlanKind::Number));
-    assert!(rt; over_plan(alloc, "show", TOPIC, TOPIC) == Status::Plan(3, PlanKind::Twice));
-    assert!(rt; over_plan(alloc, "show", TOPIC, OTHER) == Status::Plan(3, PlanKind::UnknownTopic));
-    assert!(rt; over_plan(alloc, "show", TOPIC, WRITER) == Status::Plan(4, PlanKind::Word));
-    assert!(rt; over_plan(alloc, "list", TOPIC, WRITER) == Status::Plan(4, PlanKind::Word));
+    assert!(rt;
+        matches!(
+            &over_plan(alloc, "show", zero, WRITER),
+            Status::Plan(2, PlanKind::Number)
+        )
+    );
+    assert!(rt;
+        matches!(
+            &over_plan(alloc, "show", TOPIC, TOPIC),
+            Status::Plan(3, PlanKind::Twice)
+        )
+    );
+    assert!(rt;
+        matches!(
+            &over_plan(alloc, "show", TOPIC, OTHER),
+            Status::Plan(3, PlanKind::UnknownTopic)
+        )
+    );
+    assert!(rt;
+        matches!(
+            &over_plan(alloc, "show", TOPIC, WRITER),
+            Status::Plan(4, PlanKind::Word)
+        )
+    );
+    assert!(rt;
+        matches!(
+            &over_plan(alloc, "list", TOPIC, WRITER),
+            Status::Plan(4, PlanKind::Word)
+        )
+    );
     let reader = b"reader b2b2b2b2b2b2b2b2b2b2b2b200000107 T transient\nend\n";
-    assert!(rt; over_plan(alloc, "list", TOPIC, reader) == Status::Done);
+    assert!(rt; matches!(&over_plan(alloc, "list", TOPIC, reader), Status::Done));
 }
 
 #[test]
@@ -252,7 +280,7 @@ fn a_failing_source_is_a_read_fault(rt: HostRuntime) {
         let mut fails = none(alloc);
         fails.source = call(alloc, number);
         let done = run(alloc, "list", FIRST, SECOND, fails);
-        assert!(rt; gives(&done, Status::ReadFault, b"", b"durability: read fault\n"));
+        assert!(rt; gives(&done, &Status::ReadFault, b"", b"durability: read fault\n"));
     }
 }
 
@@ -262,11 +290,18 @@ fn a_failing_sink_is_a_write_fault(rt: HostRuntime) {
     let mut fails = none(alloc);
     fails.sink = call(alloc, 0);
     let done = run(alloc, "list", FIRST, SECOND, fails);
-    assert!(rt; gives(&done, Status::WriteFault, b"", b"durability: write fault\n"));
+    assert!(rt;
+        gives(
+            &done,
+            &Status::WriteFault,
+            b"",
+            b"durability: write fault\n"
+        )
+    );
     let mut fails = none(alloc);
     fails.sink = call(alloc, 1);
     let done = run(alloc, "list", FIRST, SECOND, fails);
-    assert!(rt; gives(&done, Status::Done, LINE, b""));
+    assert!(rt; gives(&done, &Status::Done, LINE, b""));
 }
 
 #[test]
@@ -275,9 +310,49 @@ fn a_failing_err_changes_no_status(rt: HostRuntime) {
     let mut fails = none(alloc);
     fails.err = call(alloc, 0);
     let done = run(alloc, "lists", FIRST, b"", fails);
-    assert!(rt; gives(&done, Status::Usage, b"", b""));
+    assert!(rt; gives(&done, &Status::Usage, b"", b""));
     let mut fails = none(alloc);
     fails.err = call(alloc, 1);
     let done = run(alloc, "lists", FIRST, b"", fails);
-    assert!(rt; gives(&done, Status::Usage, b"", b"durability: usage\n"));
+    assert!(rt; gives(&done, &Status::Usage, b"", b"durability: usage\n"));
+}
+
+/// Whether this is what is said of a status.
+fn says(alloc: Global, status: &Status, line: &[u8]) -> bool {
+    let mut err = MemSink::new(List::new(alloc));
+    say_fault(&mut err, status);
+    err.written().as_slice() == line
+}
+
+#[test]
+fn the_faults_of_files_have_their_lines(rt: HostRuntime) {
+    let alloc = rt.alloc();
+    let journal = Status::NotAJournal(FileId::One, 13);
+    assert!(rt; says(alloc, &Status::DiskFault, b"durability: disk fault\n"));
+    assert!(rt; says(alloc, &journal, b"durability: not a journal 1 13\n"));
+    assert!(rt;
+        says(
+            alloc,
+            &Status::Full(1073741825),
+            b"durability: full 1073741825\n"
+        )
+    );
+    assert!(rt; says(alloc, &Status::Worn, b"durability: worn\n"));
+    assert!(rt; number(&Status::DiskFault) == 7 && number(&journal) == 9);
+    assert!(rt; number(&Status::Full(0)) == 10 && number(&Status::Worn) == 10);
+}
+
+#[test]
+fn the_longest_name_has_room_in_its_line(rt: HostRuntime) {
+    let alloc = rt.alloc();
+    let longest = [b'N'; 64];
+    assert!(rt; is_a_name(&longest));
+    if is_a_name(&longest) {
+        let mut line = Octets::new(alloc);
+        let _ = line.append(b"durability: plan differs ");
+        let _ = line.append(&longest);
+        let _ = line.append(b"\n");
+        let status = Status::PlanDiffers(Name::of(&longest));
+        assert!(rt; number(&status) == 9 && says(alloc, &status, line.as_slice()));
+    }
 }

@@ -8,7 +8,7 @@ use Rattle.dur_qos.specs.Text.{PlanText}
 use Rattle.dur_view.specs.Full.{blank}
 use Rattle.dur_hub.specs.Runs.{Run, opening}
 use Rattle.dur_rerun.specs.declared.status.Status.{Status}
-use Rattle.dur_rerun.specs.declared.status.Status.TheVariants.{Done, Usage, OutOfMemory, Input, ReadFault, WriteFault, Plan}
+use Rattle.dur_rerun.specs.declared.status.Status.TheVariants.{Done, OutOfMemory, Input, ReadFault, WriteFault, Plan}
 use Rattle.dur_rerun.specs.Admission.{Admits}
 use Rattle.dur_rerun.specs.Input.Breaks.{place_at, PlanBreaks, CaptureBreaks}
 use Rattle.dur_rerun.specs.Input.Prefix.{own_prefix}
@@ -34,20 +34,22 @@ ListAnswers at epoch input text (Input place fault) = (text ≡ []) × (place_at
 ListAnswers at epoch input text (Plan line k) = (text ≡ []) × PlanBreaks input line k
 ListAnswers at epoch input text ReadFault = text ≡ []
 ListAnswers at epoch input text OutOfMemory = text ≡ []
-ListAnswers at epoch input text Usage = ⊥
+ListAnswers at epoch input text other = ⊥
 
 -- with this status the command ends
 abbrev pub ListEnds : Status → Type 0
-ListEnds Usage = ⊥
+ListEnds Done = Unit {0}
+ListEnds OutOfMemory = Unit {0}
 ListEnds (Input place fault) = place_at fault ≡ Some place
+ListEnds ReadFault = Unit {0}
+ListEnds WriteFault = Unit {0}
 ListEnds (Plan line k) = k ≡ kind.OutOfMemory → ⊥
-ListEnds other = Unit {0}
+ListEnds other = ⊥
 
 -- and with one of these where nothing was written
 abbrev pub EndsUnwritten : Status → Type 0
-EndsUnwritten Done = ⊥
-EndsUnwritten WriteFault = ⊥
-EndsUnwritten Usage = ⊥
+EndsUnwritten OutOfMemory = Unit {0}
 EndsUnwritten (Input place fault) = place_at fault ≡ Some place
+EndsUnwritten ReadFault = Unit {0}
 EndsUnwritten (Plan line k) = k ≡ kind.OutOfMemory → ⊥
-EndsUnwritten other = Unit {0}
+EndsUnwritten other = ⊥

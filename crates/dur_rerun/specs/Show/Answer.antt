@@ -4,7 +4,7 @@ use Rattle.dur_qos.specs.declared.plan.Plan.{Plan as PlanOf}
 use Rattle.dur_qos.specs.declared.fault.PlanKind.TheVariants as kind
 use Rattle.dur_qos.specs.Text.{PlanText}
 use Rattle.dur_rerun.specs.declared.status.Status.{Status}
-use Rattle.dur_rerun.specs.declared.status.Status.TheVariants.{Done, Usage, OutOfMemory, Input, ReadFault, WriteFault, Plan}
+use Rattle.dur_rerun.specs.declared.status.Status.TheVariants.{Done, OutOfMemory, Input, ReadFault, WriteFault, Plan}
 use Rattle.dur_rerun.specs.Input.Breaks.{place_at, PlanBreaks}
 use Rattle.dur_rerun.specs.Input.Prefix.{own_prefix}
 use Rattle.dur_rerun.specs.Show.Printing.{ShowsRest}
@@ -32,4 +32,4 @@ ShowEnds (Input place fault) = place_at fault ≡ Some place
 ShowEnds ReadFault = Unit {0}
 ShowEnds WriteFault = Unit {0}
 ShowEnds (Plan line k) = k ≡ kind.OutOfMemory → ⊥
-ShowEnds Usage = ⊥
+ShowEnds other = ⊥

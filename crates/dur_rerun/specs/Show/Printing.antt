@@ -9,7 +9,7 @@ use Rattle.rtps_message.specs.declared.heard.Heard.{Heard}
 use Rattle.rtps_message.specs.Messages.{Hears}
 use Rattle.dur_rerun.specs.declared.show.printer.Printer.{Printer}
 use Rattle.dur_rerun.specs.declared.status.Status.{Status}
-use Rattle.dur_rerun.specs.declared.status.Status.TheVariants.{Done, Usage, OutOfMemory, Input, ReadFault, WriteFault, Plan}
+use Rattle.dur_rerun.specs.declared.status.Status.TheVariants.{Done, OutOfMemory, Input, ReadFault, WriteFault}
 use Rattle.dur_rerun.specs.Input.Breaks.{place_at}
 use Rattle.dur_rerun.specs.Input.Records.{total}
 use Rattle.dur_rerun.specs.Show.Line.{line, Shows}
@@ -44,8 +44,7 @@ ShowsRest own before octets text (Input place fault) = (place_at fault ≡ Some 
 ShowsRest own before octets text ReadFault = ShowsRead own before octets text
 ShowsRest own before octets text OutOfMemory = ShowsRead own before octets text
 ShowsRest own before octets text WriteFault = (text ≢ []) × ShowsRead own before octets text
-ShowsRest own before octets text (Plan line kind) = ⊥
-ShowsRest own before octets text Usage = ⊥
+ShowsRest own before octets text other = ⊥
 
 -- with this status the printing of a capture ends
 abbrev pub EndsRest : Status → Type 0

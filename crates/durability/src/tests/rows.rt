@@ -73,7 +73,7 @@ fn lists(alloc: Global, words: &[&str], settings: &[u8], capture: &Octets, out: 
     let rig = MemRig::new(disk, MemSink::new(List::new(alloc)));
     let ran = durability(alloc, &words, &mut input, rig, &mut err);
     let (_, sink) = ran.rig.parts();
-    ran.status == Status::Done && sink.written().as_slice() == out
+    matches!(&ran.status, Status::Done) && sink.written().as_slice() == out
 }
 
 const LIST: &[&str] = &["list"];

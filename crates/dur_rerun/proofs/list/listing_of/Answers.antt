@@ -1,4 +1,4 @@
-use Rattle.std.proofs.Common.{ap, ◌∙◌}
+use Rattle.std.proofs.Common.{ap, ◌∙◌, arith}
 use Rattle.std.proofs.lemmas.Result.{err_from_is_err_and}
 use Rattle.dur_qos.specs.declared.plan.Plan.{Plan}
 use Rattle.dur_rerun.proofs.Lists.{lists, rest_stops, plan_good, few_topics}
@@ -19,6 +19,11 @@ returns-in_err-admit_rest-clause-answers g c =
     let o = c.in_ok-opened.ensures.opens in
     let p = err_from_is_err_and c.from_residual-in_err-admit_rest.result c.from_residual-in_err-admit_rest.ensures.1 in
     rw (p.1, p.2) (rest_stops _ _ o.0 c.args.at c.args.epoch c.in_ok-opened.opened o.2 _ o.1 c.in_err-admit_rest.ensures.ends c.in_err-admit_rest.ensures.stops)
+
+pub returns-in_err-admit_rest-clause-read : goal.returns-in_err-admit_rest-clause-read
+returns-in_err-admit_rest-clause-read g c =
+    let p = err_from_is_err_and c.from_residual-in_err-admit_rest.result c.from_residual-in_err-admit_rest.ensures.1 in
+    rw (p.1, p.2) (λ is. omega (arith, c.in_ok-opened.ensures.later, c.in_err-admit_rest.ensures.read is))
 
 pub returns-clause-text : goal.returns-clause-text
 returns-clause-text g c =

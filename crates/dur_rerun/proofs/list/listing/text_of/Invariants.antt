@@ -1,4 +1,4 @@
-use Rattle.std.proofs.Common.{◌≡◌, ◌+◌, ◌++◌, max, List, [], length}
+use Rattle.std.proofs.Common.{◌≡◌, ◌+◌, ◌++◌, max, List, length}
 use Rattle.dur_hub.specs.declared.event.Event.{Event}
 use Rattle.dur_hub.specs.Runs.{Run}
 use Rattle.dur_hub.specs.Legal.{run_after}
