@@ -23,6 +23,7 @@ pub mod Reruns
 pub mod Rest
 pub mod Says
 pub mod SaysThrough
+pub mod Sendable
 pub mod SendsOut
 pub mod Serving
 pub mod SessionReplies

@@ -24,11 +24,11 @@ use Rattle.dur_rerun.specs.Rerun.Steps.{StandsAt, IsRepliedAt, BeginsAt, IsSnaps
 
 -- ---- lists of calls
 
-run_snoc : (r : Run) (es : List Event) (e : Event) → run_after r (es ++ e ∷ []) ≡ run_by (run_after r es) e
+pub run_snoc : (r : Run) (es : List Event) (e : Event) → run_after r (es ++ e ∷ []) ≡ run_by (run_after r es) e
 run_snoc r [] e = refl
 run_snoc r (x ∷ es) e = run_snoc (run_by r x) es e
 
-last_legal : (r : Run) (es : List Event) (e : Event) → Legal r (es ++ e ∷ []) → LegalAt (run_after r es) e
+pub last_legal : (r : Run) (es : List Event) (e : Event) → Legal r (es ++ e ∷ []) → LegalAt (run_after r es) e
 last_legal r [] e legal = legal.0
 last_legal r (x ∷ es) e legal = last_legal (run_by r x) es e legal.1
 

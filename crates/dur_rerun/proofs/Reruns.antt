@@ -26,6 +26,7 @@ use Rattle.dur_rerun.specs.declared.status.Status.{Status}
 use Rattle.dur_rerun.specs.declared.status.Status.TheVariants.{OutOfMemory}
 use Rattle.dur_rerun.specs.Input.Plan.{Opens}
 use Rattle.dur_rerun.specs.Input.Prefix.{own_prefix}
+use Rattle.dur_rerun.specs.Rerun.Opening.{IsOpening, IsOver}
 use Rattle.dur_rerun.specs.Rerun.Answer.{EndsCourse, IsOpenedFrom, OpensNot, ReadsAs, ReadsBehind, RerunLeaves, RunsOver, RunsOn, RunsPlan}
 use Rattle.dur_rerun.specs.Rerun.Crashes.{IsKept}
 use Rattle.dur_rerun.specs.Rerun.Services.{Begins, IsFoundFor, Serves, StartsFrom}
@@ -41,6 +42,7 @@ pub begins_so : (plan : Plan) (view : View) (epoch : ℕ) (s : Service) (positio
 begins_so plan view epoch s position b none = record {
   good = b.stands.at.at.good;
   plan = sym b.plan_is;
+  opens = subst (λ (p : Plan). IsOpening p (opening plan view 0)) (sym b.plan_is) b.opens;
   settled = record { stands = b.stands; durable = refl; counts = none };
 }
 

@@ -36,6 +36,7 @@ use Rattle.dur_hub.proofs.Stored.{durable_is, next_longer}
 use Rattle.dur_rerun.specs.Admission.{IsWhole, Brings, Admitted}
 use Rattle.dur_rerun.specs.Saying.{wrote}
 use Rattle.dur_rerun.specs.declared.rerun.replays.Replay.{Replay}
+use Rattle.dur_rerun.specs.Rerun.Opening.{IsOpening, IsOver}
 use Rattle.dur_rerun.specs.Rerun.Courses.{Receives, IsMade, place_at, answered_at}
 use Rattle.dur_rerun.specs.Rerun.Crashes.{IsHandling}
 use Rattle.dur_rerun.specs.Rerun.Saying.{IsFront, Says}
@@ -253,7 +254,7 @@ taken_in tells begun log r old new first now hub reply asked w u a serves stores
       asked_are = a.nacks_are;
       has = received_of begun log a.call hub first.position settled;
       more = s.more;
-      serves = record { good = serves.good; plan = serves.plan ∙ sym (ap (λ (x : Service). x.plan) same); settled = s.settled };
+      serves = record { good = serves.good; plan = serves.plan ∙ sym (ap (λ (x : Service). x.plan) same); opens = subst (λ (p : Plan). IsOpening p begun) (sym (ap (λ (x : Service). x.plan) same)) serves.opens; settled = s.settled };
       leads = s.leads;
       silent = s.silent;
       same = same;
@@ -428,6 +429,7 @@ answered_so tells begun log port acks asked old new first now w v text result al
       serves = record {
         good = serves.good;
         plan = serves.plan ∙ sym plan;
+        opens = subst (λ (p : Plan). IsOpening p begun) (sym plan) serves.opens;
         settled = record {
           stands = l.stands;
           durable = ap (λ (r : Run). r.durable) is ∙ counts.1 ∙ serves.settled.durable ∙ sym taken;
@@ -495,3 +497,10 @@ stops_answering own plan before r (status.NotAJournal file place) ends = absurd 
 stops_answering own plan before r (status.PlanDiffers name) ends = absurd ends
 stops_answering own plan before r (status.Full size) ends = absurd ends
 stops_answering own plan before r status.Worn ends = absurd ends
+
+-- the hub of a service stays over its plan
+pub taken_over : {D : Type 0} (tells : Type 0) (r : Record) (old mid : Service) (first between : Journal D) (acks : List Ack) (asked : List Nack) (w u : World) → ServesSome old first.position
+    → ((begun : Run) (log : List Event) → Serves begun log old first.position → TakenIn tells begun log r old first mid between acks asked w u) → IsOver mid.plan mid.hub
+taken_over tells r old mid first between acks asked w u some so =
+    let t = so some.0 some.1 some.2 in
+    record { begun = some.0; log = (some.1 ++ t.received.call ∷ []) ++ t.more; opens = t.serves.opens; stands = t.serves.settled.stands }

@@ -16,6 +16,7 @@ mod course;
 mod fitting;
 mod laws;
 pub(crate) mod nacks;
+mod opening;
 mod replays;
 mod reply;
 #[cfg(test)]
@@ -34,13 +35,13 @@ use crate::status::{Ran, Status};
 use course::answer_all;
 use dur_base::OutOfMemory;
 use dur_capture::Feed;
-use dur_hub::Hub;
 use dur_journal::{Journal, OpenFault, Opened as Found};
 use dur_outside::{Rig, Source};
 use dur_qos::Plan;
 use dur_view::View;
 use fitting::may_open;
 pub use laws::kept_histories_stand_for_whole_ones;
+use opening::open_hub;
 use replays::Replays;
 use service::Service;
 use std::alloc::Global;
@@ -71,7 +72,7 @@ fn begin(alloc: Global, plan: Plan, view: View, epoch: u32) -> Result<Service, O
     }
     let own = own_prefix(plan.prefix, epoch);
     let kept = plan.copy()?;
-    let hub = Hub::new(alloc, kept, view, 0)?;
+    let hub = open_hub(alloc, kept, view)?;
     Ok(Service {
         own,
         plan,

@@ -24,6 +24,7 @@ use Rattle.dur_rerun.specs.declared.rerun.service.Service.{Service}
 use Rattle.dur_rerun.specs.declared.rerun.nacks.Nack.{Nack}
 use Rattle.dur_rerun.specs.Rerun.Courses.{Receives, RecordCalls, Course, place_at}
 use Rattle.dur_rerun.specs.Rerun.Crashes.{IsHandling, IsKept}
+use Rattle.dur_rerun.specs.Rerun.Opening.{IsOpening}
 use Rattle.dur_rerun.specs.Rerun.Replies.{Place, Replies, BeginsReplies, nacks}
 use Rattle.dur_rerun.specs.Rerun.Saying.{IsFront}
 use Rattle.dur_rerun.specs.Rerun.Stores.{stored_all, IsSettled, IsKeeping, EndsStoring, FailsToStore}
@@ -32,6 +33,7 @@ use Rattle.dur_rerun.specs.Rerun.Stores.{stored_all, IsSettled, IsKeeping, EndsS
 pub record Serves (begun : Run) (log : List Event) (service : Service) (position : ℕ) : Type 0 where
   pub good : IsGoodRun begun
   pub plan : begun.plan ≡ service.plan
+  pub opens : IsOpening service.plan begun
   pub settled : IsSettled begun log service.hub position
 
 abbrev pub ServesSome : Service → ℕ → Type 0
@@ -199,6 +201,7 @@ pub record Begins (plan : Plan) (view : View) (epoch : ℕ) (service : Service) 
   pub own : service.own ≡ own_prefix epoch plan
   pub plan_is : service.plan ≡ plan
   pub may : MayOpen plan view
+  pub opens : IsOpening plan (opening plan view 0)
   pub stands : StandsAs (opening plan view 0) [] service.hub
   pub none : service.replays.begun.items ≡ []
 

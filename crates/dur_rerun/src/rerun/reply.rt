@@ -1,15 +1,15 @@
 //! What a record calls for, written out: its acknowledgements, and what replays send to its ACKNACKs.
 
-ghost use Rattle.std.specs.Prelude.{◌≡◌, ◌≤◌, ◌<◌, length, None, IfOk, IfErr, IfSome};
+ghost use Rattle.std.specs.Prelude.{◌≡◌, ◌≤◌, ◌<◌, ◌+◌, ◌-◌, ◌^◌, length, None, IfOk, IfErr, IfSome};
 ghost use Rattle.dur_outside.specs.Causes.{HasCause};
 ghost use Rattle.dur_journal.specs.Journals.{IsReady};
-ghost use Rattle.dur_qos.specs.Good.{GoodPlan};
 ghost use Rattle.rel_writer.specs.LateReaders.{shape_of};
 ghost use Rattle.rtps_message.specs.Sent.{is_keyed};
 ghost use Rattle.dur_hub.specs.declared.event.Event.{Event};
 ghost use Rattle.dur_hub.specs.Runs.{Run};
 ghost use Rattle.dur_hub.specs.Hubs.{Stands};
 ghost use Rattle.dur_rerun.specs.declared.rerun.reply.Cut.TheVariants as cut;
+ghost use Rattle.dur_rerun.specs.Rerun.Opening.{IsOver, HasReader};
 ghost use Rattle.dur_rerun.specs.Rerun.Replies.{ids_of, session_for};
 ghost use Rattle.dur_rerun.specs.Rerun.Reply.{Replied};
 ghost use Rattle.dur_rerun.specs.Rerun.Sending.{CutBy, GoOut, Stays};
@@ -23,7 +23,8 @@ use dur_hub::{Ack, Hub, SnapFault};
 use dur_journal::Journal;
 use dur_outside::{Failed, Rig};
 use dur_qos::Plan;
-use rel_writer::{Ids, Session, are_sendable};
+use dur_view::Change;
+use rel_writer::{Ids, Session};
 use rtps_message::write_acknack;
 use std::alloc::Global;
 
@@ -71,25 +72,29 @@ fn ids_of(own: Prefix, nack: &Nack) -> Ids
     }
 }
 
-/// The session of what the hub's snapshot has for an ACKNACK's reader, or None where the hub refuses it one. A session
-/// asks that changes can be sent, which is tested here: where they could not, that ends as want of memory does.
+/// What the type knows: changes stand in memory, so there are fewer than 2^63 - 2 of them.
+fn count(changes: &[Change])
+    ensures { length changes.now + 1 < 2 ^ 63 - 1 }
+{
+    let _count = changes.len();
+}
+
+/// The session of what the hub's snapshot has for an ACKNACK's reader, or None where the hub refuses it one.
 fn start(
     alloc: Global,
     hub: &mut Hub,
     own: Prefix,
     nack: &Nack,
 ) -> Result<Option<Session>, OutOfMemory>
+    requires reader { HasReader nack.now hub.old }
     ensures { IfOk result (λ got. (start : Run) (log : List Event) → Stands start log hub.old
         → Starts own nack.now start log hub.new got) }
 {
     let moment = hub.last();
     match hub.snapshot(alloc, moment, nack.reader) {
         Ok(snapshot) => {
-            let ids = ids_of(own, nack);
-            if !are_sendable(snapshot.changes.as_slice(), ids.keyed) {
-                return Err(OutOfMemory);
-            }
-            Ok(Some(Session::new(snapshot, ids)))
+            count(snapshot.changes.as_slice());
+            Ok(Some(Session::new(snapshot, ids_of(own, nack))))
         }
         Err(SnapFault::OutOfMemory) => Err(OutOfMemory),
         Err(_) => Ok(None),
@@ -104,6 +109,7 @@ fn begin(
     own: Prefix,
     nack: &Nack,
 ) -> Result<Option<usize>, OutOfMemory>
+    requires reader { HasReader nack.now hub.old }
     requires new { session_for replays.old.begun.items nack.now.reader ≡ None }
     ensures within { IfOk result (λ got. IfSome got (λ at. at < length replays.new.begun.items)) }
     ensures opens { IfOk result (λ got. OpensWherever own nack.now hub.old replays.old.begun.items
@@ -127,6 +133,7 @@ fn open(
     own: Prefix,
     nack: &Nack,
 ) -> Result<Option<usize>, OutOfMemory>
+    requires reader { HasReader nack.now hub.old }
     ensures within { IfOk result (λ got. IfSome got (λ at. at < length replays.new.begun.items)) }
     ensures opens { IfOk result (λ got. OpensWherever own nack.now hub.old replays.old.begun.items
         hub.new replays.new.begun.items got) }
@@ -207,7 +214,7 @@ fn answer_nack<R: Rig>(
     sheet: &mut Sheet,
 ) -> Result<(), Cut>
     requires ready { R.tells → IsReady journal.old (R.world journal.old.disk) }
-    requires good { GoodPlan plan.now }
+    requires over { IsOver plan.now hub.old }
     ensures goes { GoOut R.tells journal.old journal.new (R.world journal.old.disk) (R.world journal.new.disk)
         head.now.moment head.now.port result
         (IsNackReplied plan.now own nack.now hub.old replays.old.begun.items hub.new replays.new.begun.items)
@@ -242,7 +249,7 @@ fn answer_nacks<R: Rig>(
     sheet: &mut Sheet,
 ) -> Result<(), Cut>
     requires ready { R.tells → IsReady journal.old (R.world journal.old.disk) }
-    requires good { GoodPlan plan.now }
+    requires over { IsOver plan.now hub.old }
     ensures goes { GoOut R.tells journal.old journal.new (R.world journal.old.disk) (R.world journal.new.disk)
         head.now.moment head.now.port result
         (AreReplied plan.now own nacks.now hub.old replays.old.begun.items hub.new replays.new.begun.items)
@@ -266,6 +273,8 @@ fn answer_nacks<R: Rig>(
 /// asked for, in rising order, and then one HEARTBEAT where one is asked for. Each message is a record with the moment
 /// that the hub used last and this port.
 ///
+/// The hub stands for calls over an opening of the plan, so what a snapshot of it has may be sent as it is.
+///
 /// It fails where a write did, or for want of memory, which only a replay that begins takes; then a front of that went out.
 pub fn reply<R: Rig>(
     alloc: Global,
@@ -280,7 +289,7 @@ pub fn reply<R: Rig>(
     sheet: &mut Sheet,
 ) -> Result<(), Cut>
     requires ready { R.tells → IsReady journal.old (R.world journal.old.disk) }
-    requires good { GoodPlan plan.now }
+    requires over { IsOver plan.now hub.old }
     ensures replied { Replied R.tells own port acks.now nacks.now plan.now hub.old hub.new
         replays.old.begun.items replays.new.begun.items journal.old journal.new
         (R.world journal.old.disk) (R.world journal.new.disk) result }

@@ -4,6 +4,7 @@ ghost use Rattle.std.specs.Prelude.{◌≡◌, ◌≤◌, ℕ, IfOk, IfErr};
 ghost use Rattle.dur_outside.specs.Causes.{Rose};
 ghost use Rattle.dur_journal.specs.Journals.{IsReady};
 ghost use Rattle.dur_qos.specs.Good.{GoodPlan};
+ghost use Rattle.dur_rerun.specs.Rerun.Opening.{IsOver};
 ghost use Rattle.dur_rerun.specs.Rerun.Courses.{place_at};
 ghost use Rattle.dur_rerun.specs.Rerun.Services.{Answered, CutShort, EndsAnswering, EndsHandling, Handled, LeavesHandling, MayServe, ServesSome, StopsHandling, TakenIn, WhereServing, taken_rig};
 ghost use Rattle.dur_rerun.specs.Rerun.Sending.{CutBy};
@@ -83,7 +84,7 @@ fn answer<R: Rig>(
     sheet: &mut Sheet,
 ) -> Result<Journal<R>, (Status, R)>
     requires ready { R.tells → IsReady journal (R.world journal.disk) }
-    requires good { GoodPlan service.old.plan }
+    requires over { IsOver service.old.plan service.old.hub }
     ensures answered { IfOk result (λ after. WhereServing service.old journal.position (λ begun log.
         Answered R.tells begun log port brought.now.reply.acks brought.now.nacks.items service.old journal service.new after
         (R.world journal.disk) (R.world after.disk))) }

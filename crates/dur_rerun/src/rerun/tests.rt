@@ -4,8 +4,10 @@ ghost use Rattle.std.specs.Prelude.{IfOk, IfSome};
 ghost use Rattle.dur_outside.specs.Memory.{disk_world};
 ghost use Rattle.dur_qos.specs.Good.{GoodPlan};
 ghost use Rattle.dur_journal.specs.Journals.{IsReady};
+ghost use Rattle.dur_rerun.specs.Rerun.Opening.{IsOver};
 
 use crate::rerun::nacks::{Nack, nacks_of};
+use crate::rerun::opening::open_hub;
 use crate::rerun::replays::Replays;
 use crate::rerun::reply::{Cut, reply};
 use crate::rerun::sheet::Sheet;
@@ -69,11 +71,12 @@ fn plan_of(alloc: Global, text: &[u8]) -> Result<Plan, PlanFault>
 
 fn hub_of(alloc: Global, plan: &Plan) -> Option<Hub>
     requires { GoodPlan plan.now }
+    ensures { IfSome result (λ hub. IsOver plan.now hub) }
 {
     let copy = plan.copy().ok()?;
     let view = View::blank(&copy).ok()?;
     hubs_open_over_blank_views();
-    Hub::new(alloc, copy, view, 0).ok()
+    open_hub(alloc, copy, view).ok()
 }
 
 /// A journal over two empty files, and a sink of which these calls fail.

@@ -3,6 +3,7 @@ use Rattle.std.proofs.lemmas.Result.{err_from_is_err_and}
 use Rattle.dur_rerun.specs.Rerun.Steps.{AreReplied, BeginNacks, IsNackReplied, BeginsNack}
 use Rattle.dur_rerun.proofs.SendsOut.{goes_on, goes_err, so_far, all_out, none_yet, stays_on}
 use Rattle.dur_rerun.proofs.NackReplies.{nack_more, nack_begins, none_replied, all_replied}
+use Rattle.dur_rerun.proofs.Sendable.{still_over}
 use Rattle.dur_rerun.proofs.rerun.reply.answer_nacks.Goals as goal
 
 pub loop-at-init : goal.loop-at-init
@@ -66,3 +67,8 @@ returns-clause-goes g c =
     c.loop-at.invariant.goes
     (λ (xs : List (List ℕ)) are.
     all_replied c.args.plan.now c.args.own c.args.nacks.now c.loop-at.at c.args.hub.now c.loop-at.hub c.args.replays.now.begun.items c.loop-at.replays.begun.items xs (omega (arith, c.loop-at-test.false, c.loop-at.auto.at-end)) are)
+
+pub answer_nack-requires-clause-over : goal.answer_nack-requires-clause-over
+answer_nack-requires-clause-over g c =
+    still_over c.args.plan.now c.args.own (take c.loop-at.at c.args.nacks.now) c.args.hub.now c.loop-at.hub c.args.replays.now.begun.items c.loop-at.replays.begun.items
+    c.loop-at.invariant.goes.messages c.requires.over c.loop-at.invariant.goes.all

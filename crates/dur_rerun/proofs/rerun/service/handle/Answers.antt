@@ -1,7 +1,7 @@
 use Rattle.dur_outside.proofs.Runs.{joins}
 use Rattle.dur_rerun.specs.Rerun.Courses.{place_at}
 use Rattle.dur_rerun.specs.Rerun.Crashes.{IsHandling}
-use Rattle.dur_rerun.proofs.Serving.{handled, answer_left, made_all, made_some, ready_taken, plan_taken, stops_answering}
+use Rattle.dur_rerun.proofs.Serving.{handled, answer_left, made_all, made_some, ready_taken, taken_over, stops_answering}
 use Rattle.dur_rerun.proofs.rerun.service.handle.Goals as goal
 
 pub answer-requires-clause-ready : goal.answer-requires-clause-ready
@@ -9,10 +9,10 @@ answer-requires-clause-ready g c = λ told.
     ready_taken g.R.Machine.tells c.args.datagram.now c.args.service.now c.take_in.new.service c.args.journal c.in-Ok.taken.0 c.in-Ok.taken.1.reply.acks c.in-Ok.taken.1.nacks.items
     (g.R.Machine.world c.args.journal.disk) (g.R.Machine.world c.in-Ok.taken.0.disk) (c.requires.ready told) c.in-Ok.ensures.taken told
 
-pub answer-requires-clause-good : goal.answer-requires-clause-good
-answer-requires-clause-good g c =
-    plan_taken g.R.Machine.tells c.args.datagram.now c.args.service.now c.take_in.new.service c.args.journal c.in-Ok.taken.0 c.in-Ok.taken.1.reply.acks c.in-Ok.taken.1.nacks.items
-    (g.R.Machine.world c.args.journal.disk) (g.R.Machine.world c.in-Ok.taken.0.disk) c.requires.serves c.in-Ok.ensures.taken c.requires.good
+pub answer-requires-clause-over : goal.answer-requires-clause-over
+answer-requires-clause-over g c =
+    taken_over g.R.Machine.tells c.args.datagram.now c.args.service.now c.take_in.new.service c.args.journal c.in-Ok.taken.0 c.in-Ok.taken.1.reply.acks c.in-Ok.taken.1.nacks.items
+    (g.R.Machine.world c.args.journal.disk) (g.R.Machine.world c.in-Ok.taken.0.disk) c.requires.serves c.in-Ok.ensures.taken
 
 pub returns-in-Ok-answer-clause-handled : goal.returns-in-Ok-answer-clause-handled
 returns-in-Ok-answer-clause-handled g c = λ begun log serves.

@@ -1,0 +1,9 @@
+use Rattle.std.proofs.Common.{rules}
+use Rattle.dur_rerun.specs.Rerun.Opening.{AreNumbered}
+use Rattle.dur_rerun.proofs.Sendable.{opened_ok}
+use Rattle.dur_rerun.proofs.rerun.opening.open_hub.Goals as goal
+
+pub returns-clause-over : goal.returns-clause-over
+returns-clause-over c =
+    let numbered : AreNumbered c.args.view.writers = search (rules, c.see_numbers.ensures, c.as_slice.ensures) in
+    opened_ok c.args.plan c.args.view c.new.result c.requires numbered c.new.ensures
