@@ -4,7 +4,7 @@ ghost use Rattle.std.specs.Prelude.{[], IfOk};
 ghost use Rattle.dur_hub.specs.Hubs.{Stands};
 ghost use Rattle.dur_hub.specs.Openings.{MayOpen};
 ghost use Rattle.dur_hub.specs.Runs.{opening};
-ghost use Rattle.dur_rerun.specs.Rerun.Opening.{AreNumbered, IsOver};
+ghost use Rattle.dur_rerun.specs.Rerun.Opening.{AreNumbered, IsOpening, IsOver};
 
 use dur_base::OutOfMemory;
 use dur_hub::Hub;
@@ -24,6 +24,7 @@ fn see_numbers(writers: &[KeptWriter])
 /// A hub over a plan and a view that it may be opened with. It stands for no call yet.
 pub fn open_hub(alloc: Global, plan: Plan, view: View) -> Result<Hub, OutOfMemory>
     requires { MayOpen plan view }
+    ensures opens { IsOpening plan (opening plan view 0) }
     ensures stands { IfOk result (λ hub. Stands (opening plan view 0) [] hub) }
     ensures over { IfOk result (λ hub. IsOver plan hub) }
 {
