@@ -1,6 +1,7 @@
-//! The commands of the service over a source and a rig: what became of a run; `show`, which prints what each
-//! record of a capture tells; and `list`, which prints what a capture's history entitles a late reader to. And
-//! `late`, a late reader over a link.
+//! The commands of the service over a source and a rig: what became of a run; `show`, which prints what each record
+//! of a capture tells; `list`, which prints what a capture's history entitles a late reader to; `rerun`, which handles
+//! a capture over the journal of two files; and `check`, which prints what these files are. And `late`, a late reader
+//! over a link.
 #![tactic(auto)]
 
 mod admit;
