@@ -5,7 +5,8 @@
 # many times as long the replay takes.
 #
 # Writes a small program into a folder of its own under the system's temporary folder, with copies of the crates that
-# it stands on, has it proved and compiled there, runs it, and removes the folder.
+# it stands on, has it proved and compiled there, runs it, and removes the folder. Libraries that are proved here already
+# are taken over.
 #
 # Usage: bench/replay.sh [CHANGES], by default 10000 changes with payloads of 256 octets.
 set -euo pipefail
@@ -19,6 +20,10 @@ mkdir -p "$work/crates/replay_bench/src"
 for crate in dur_base dur_qos dur_view rel_reader rel_writer rtps_message rtps_params rtps_submsg; do
     mkdir -p "$work/crates/$crate"
     cp -r "$top/crates/$crate"/{src,specs,proofs} "$work/crates/$crate/"
+    if [ -d "$top/crates/$crate/out/rlib" ]; then
+        mkdir "$work/crates/$crate/out"
+        cp -r "$top/crates/$crate/out/rlib" "$work/crates/$crate/out/"
+    fi
     grep -E "^$crate[ :]" "$top/crates.txt" >> "$work/crates.txt"
 done
 echo 'replay_bench: dur_base dur_view rel_writer rtps_message bytes' >> "$work/crates.txt"
