@@ -10,7 +10,7 @@ number little w bytes = if little then from_le_bytes w bytes else from_be_bytes 
 unfoldable pub octets : Bool → Width → ℕ → List ℕ
 octets little w n = if little then to_le_bytes w n else to_be_bytes w n
 
--- A sequence number: its high half of 32 bits, and then its low half. The high half has a sign: a
+-- A sequence number (DDSI-RTPS 9.3.2.10): its high half of 32 bits, and then its low half. The high half has a sign: a
 -- negative number is here one of 2 ^ 63 or more.
 unfoldable pub sequence : Bool → List ℕ → ℕ
 sequence little bytes = number little w32 (take 4 bytes) * 2 ^ 32 + number little w32 (take 4 (drop 4 bytes))

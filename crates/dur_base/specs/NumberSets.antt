@@ -1,4 +1,4 @@
--- Sets of numbers from a base on.
+-- Sets of numbers from a base on (DDSI-RTPS 8.3.5.5): a base, and a bit for each of at most 256 numbers.
 use Rattle.std.specs.Prelude.{length, slice_index_or, ◌^◌, ◌<◌}
 use Rattle.std.specs.Prelude.{◌≡◌, ℕ, ◌+◌, ◌-◌, ◌≤◌, ◌/◌, ◌%◌, ◌==◌, ◌&&◌, ◌⊎◌, Bool, true, false, nat_lt, nat_le, List, [], ◌∷◌, slice_index, slice_index_or, if◌then◌else◌}
 use Rattle.std.specs.Int.{bit_at, w32, trailing_zeros}

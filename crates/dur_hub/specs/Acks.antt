@@ -14,7 +14,7 @@ use Rattle.dur_hub.specs.declared.reply.Ack.{Ack}
 use Rattle.dur_view.specs.Stored.{ack_base}
 use Rattle.dur_hub.specs.Runs.{Writer}
 
--- A HEARTBEAT asks where it is not final, or where its last number is at least the writer's next one. What asks is its last number.
+-- A HEARTBEAT asks (DDSI-RTPS 8.3.8.6, 8.4.12) where it is not final, or where its last number is at least the writer's next one. What asks is its last number.
 abbrev pub asks : Fact → ℕ → Option ℕ
 asks (fact.Beat w reader first last is_final) next =
     if not is_final || nat_le next last then Some last else None

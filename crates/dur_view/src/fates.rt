@@ -115,12 +115,6 @@ fn is_purged_by(line: &InstanceState, ordinal: u128, longest: u64, now: Ticks) -
     ordinal <= line.purged || is_long(line.quiet, longest, now)
 }
 
-fn is_one_of(expired: bool, displaced: bool, purged: bool) -> bool
-    ensures { result ≡ (expired || (displaced || purged)) }
-{
-    expired || displaced || purged
-}
-
 /// A change, with its place among those of its instance.
 #[derive(Drop)]
 pub struct Placed<'a> {
@@ -149,5 +143,5 @@ pub fn is_gone(
     let expired = is_over(change.sample, now);
     let displaced = is_deep(settings.depth, line.changes.saturating_sub(change.ordinal));
     let purged = is_purged_by(&line, change.ordinal, longest, now);
-    Ok(is_one_of(expired, displaced, purged))
+    Ok(expired | (displaced | purged))
 }

@@ -1,4 +1,4 @@
--- The known numbers of a writer, by all that ever came of it.
+-- The known numbers of a writer, by all that ever came of it (DDSI-RTPS 8.4.10.4).
 use Rattle.std.specs.Prelude.{ℕ, ◌+◌, ◌-◌, ◌^◌, ◌==◌, ◌&&◌, ◌||◌, nat_lt, nat_le, Bool, Option, if◌then◌else◌}
 use Rattle.dur_base.specs.declared.sample.Sample.{Sample}
 use Rattle.dur_base.specs.NumberSets.{NumberSet, names}

@@ -1,4 +1,4 @@
--- The missing numbers: those that an ACKNACK asks for.
+-- The missing numbers: those that an ACKNACK asks for (DDSI-RTPS 8.3.8.1).
 use Rattle.std.specs.Prelude.{ℕ, ◌+◌, ◌&&◌, Bool, nat_le, min}
 use Rattle.rel_reader.specs.Knowledge.{is_unknown}
 use Rattle.rel_reader.specs.Stories.{Story, next}

@@ -1,4 +1,4 @@
--- A late reader: what it takes of all that comes, and what it asks for.
+-- A late reader: what it takes of all that comes, and what it asks for (DDSI-RTPS 8.4.12).
 use Rattle.std.specs.Prelude.{suc, zero, ◌≡◌, ℕ, ◌+◌, ◌%◌, ◌^◌, ◌&&◌, ◌||◌, not, nat_le, max, Bool, true, false, if◌then◌else◌, Option, Some, None, is_some, List, [], ◌∷◌, ◌++◌, take, drop, unwrap_or}
 use Rattle.std.specs.Str.{bytes_eq}
 use Rattle.dur_base.specs.NumberSets.{NumberSet, IsNumberSet, names}

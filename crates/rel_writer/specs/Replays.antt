@@ -1,4 +1,4 @@
--- What a session sends: its changes, and a marker behind them.
+-- What a session sends: its changes, and a marker behind them (DDSI-RTPS 8.4.9).
 use Rattle.std.specs.Prelude.{◌≡◌, ℕ, ◌+◌, ◌-◌, ◌<◌, ◌^◌, ◌==◌, ◌&&◌, Bool, false, List, [], ◌∷◌, ◌++◌, map, length, Some, IsSome, if◌then◌else◌}
 use Rattle.std.specs.List.{AllByRecursion}
 use Rattle.std.specs.Str.{bytes_eq}

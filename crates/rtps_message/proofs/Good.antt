@@ -162,11 +162,11 @@ original_is : (o : Option (List ℕ × ℕ)) → IfSome o (λ x. x.1 ≤ 2 ^ 63 
 original_is None x = tt
 original_is (Some o) x = x
 
-record IsInside (i : Inline) : Type 0 where
-  status : i.status ≤ 3
-  lifespan : IsLifespan i.lifespan
-  mark : IsMark i.set
-  original : IsOriginal i.original
+pub record IsInside (i : Inline) : Type 0 where
+  pub status : i.status ≤ 3
+  pub lifespan : IsLifespan i.lifespan
+  pub mark : IsMark i.set
+  pub original : IsOriginal i.original
 
 list_inside : (ps : List Given) → AllByRecursion (λ p. IsRanged p.means) ps → IsInside (inline_of (map (λ p. p.means) ps))
 unfolding inline_of
@@ -184,9 +184,9 @@ spelt_inside behind little i n fits x = subst IsInside (sym x.tells) (list_insid
 
 -- ---- a submessage
 
-record IsFineData (d : DataSub) : Type 0 where
-  inside : IsInside d.inline
-  payload : length d.payload.now ≤ 65344 → IsPayload d.form d.payload.now
+pub record IsFineData (d : DataSub) : Type 0 where
+  pub inside : IsInside d.inline
+  pub payload : length d.payload.now ≤ 65344 → IsPayload d.form d.payload.now
 
 abbrev IsFine : Sub → Type 0
 IsFine (Data d) = IsFineData d
@@ -203,11 +203,11 @@ plain_fine (AckNack reader writer set count f) plain = tt
 plain_fine (Gap reader writer first set) plain = tt
 plain_fine (Other id) plain = tt
 
-inline_inside : (there little : Bool) (behind rest : List ℕ) (i : Inline) → IsBytes behind → InlineSpells there little behind i rest → IsInside i
+pub inline_inside : (there little : Bool) (behind rest : List ℕ) (i : Inline) → IsBytes behind → InlineSpells there little behind i rest → IsInside i
 inline_inside true little behind rest i fits x = spelt_inside behind little i x.0 fits x.1
 inline_inside false little behind rest i fits x = subst IsInside (sym x.0) (list_inside [] tt)
 
-payload_fine : (form : Form) (rest : List ℕ) → length (payload_of form rest) ≤ 65344 → IsPayload form (payload_of form rest)
+pub payload_fine : (form : Form) (rest : List ℕ) → length (payload_of form rest) ≤ 65344 → IsPayload form (payload_of form rest)
 payload_fine forms.Nothing rest small = refl
 payload_fine forms.Data rest small = small
 payload_fine forms.KeyOnly rest small = small
@@ -235,7 +235,7 @@ sub_fine bytes s n fits x =
 
 -- ---- a fact
 
-data_good : (c : Context) (d : DataSub) → IsFineData d → IsGoodFact (data_fact c d)
+pub data_good : (c : Context) (d : DataSub) → IsFineData d → IsGoodFact (data_fact c d)
 data_good c d fine =
     cond_both (is_readable d) _ _ IsGoodFact (λ e. good (leb-true (length d.payload.now) 65344 (and_parts _ (leb (length d.payload.now) 65344) e).1)) (λ e. tt)
   where

@@ -1,4 +1,4 @@
--- The messages that the service writes.
+-- The messages that the service writes (DDSI-RTPS 8.3.3).
 use Rattle.std.specs.Prelude.{◌≡◌, ◌||◌, ℕ, Bool, true, false, List, [], ◌∷◌, ◌++◌, length, take, drop, Some, None, if◌then◌else◌}
 use Rattle.std.specs.List.{flat_map}
 use Rattle.std.specs.Str.{bytes_eq}

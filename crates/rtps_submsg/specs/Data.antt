@@ -1,4 +1,4 @@
--- DATA: its head, its inline QoS and its payload.
+-- DATA (DDSI-RTPS 9.4.5.3): its head, its inline QoS and its payload.
 use Rattle.std.specs.Prelude.{◌≡◌, ◌⊎◌, ℕ, ◌-◌, ◌^◌, Bool, true, false, List, [], length, drop, nat_le, ◌&&◌, if◌then◌else◌}
 use Rattle.std.specs.Int.{w16}
 use Rattle.dur_base.specs.declared.sample.Form.{Form}

@@ -55,7 +55,7 @@ set_row little is_ack next =
 
 -- ---- the table
 
--- 06 ACKNACK: readerId 4, writerId 4, set, count 4; flag F 02
+-- 06 ACKNACK (DDSI-RTPS 9.4.5.2): readerId 4, writerId 4, set, count 4; flag F 02
 abbrev pub acknack_row : Bool → ℕ → Row Sub
 acknack_row little flags =
     field 4 any (λ reader.
@@ -68,7 +68,7 @@ acknack_row little flags =
 abbrev pub last_rule : Bool → ℕ → Rule
 last_rule little first text rest = only_if (nat_lt (sequence little text) (2 ^ 63) && nat_le first (sequence little text + 1)) BadRange
 
--- 07 HEARTBEAT: readerId 4, writerId 4, firstSN 8, lastSN 8, count 4; flags F 02, L 04
+-- 07 HEARTBEAT (DDSI-RTPS 9.4.5.7): readerId 4, writerId 4, firstSN 8, lastSN 8, count 4; flags F 02, L 04
 abbrev pub heartbeat_row : Bool → ℕ → Row Sub
 heartbeat_row little flags =
     field 4 any (λ reader.
