@@ -5,3 +5,5 @@ pub mod Texts
 pub mod Goods
 pub mod Outcomes
 pub mod Verdicts
+pub mod WordsBack
+pub mod PlanBack

@@ -7,3 +7,4 @@ pub mod Reading
 pub mod Text
 pub mod Served
 pub mod Good
+pub mod Written

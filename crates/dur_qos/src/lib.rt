@@ -14,6 +14,7 @@ mod serving;
 mod values;
 mod whole;
 mod word;
+mod writing;
 
 pub use fault::{PlanFault, PlanKind};
 pub use laws::readings;
@@ -22,6 +23,7 @@ pub use plan::{Plan, ReaderLine, Topic, WriterLine};
 pub use reader::PlanReader;
 pub use serving::{reader_id, replay_id, served};
 pub use whole::read_plan;
+pub use writing::write_plan;
 
 #[cfg(test)]
 mod tests;

@@ -3,7 +3,9 @@
 ghost use Rattle.std.specs.Prelude.{IfOk};
 ghost use Rattle.dur_qos.specs.Good.{GoodPlan};
 
-use crate::{Plan, PlanFault, PlanKind, PlanReader, read_plan, reader_id, replay_id, served};
+use crate::{
+    Plan, PlanFault, PlanKind, PlanReader, read_plan, reader_id, replay_id, served, write_plan,
+};
 use dur_base::{Durability, EntityId, Shape};
 use std::alloc::Global;
 
@@ -71,6 +73,22 @@ fn a_plan_is_read_from_two_pieces(rt: HostRuntime) {
     let pieces = vec![in alloc; front, back].expect(&rt, "memory");
     match read_plan(alloc, &pieces) {
         Ok(plan) => assert!(rt; plan.topics.len() == 1 && plan.readers.len() == 1),
+        Err(_) => assert!(rt; false),
+    }
+}
+
+#[test]
+fn a_plan_is_written_by_topics_writers_and_readers(rt: HostRuntime) {
+    let alloc = rt.alloc();
+    let text =
+        b"prefix 010203040506070f\ntopic T transient hash 1 - 20 300 - 0\nreader b2b2b2b2b2b2b2b2b2b2b2b200000107 T transient_local\nwriter a1a1a1a1a1a1a1a1a1a1a1a100000103 T 2147483647\ntopic N/_9 persistent none all 4 - - 1 60\nwriter a1a1a1a1a1a1a1a1a1a1a1a100000102 N/_9 -\nend\n";
+    let written =
+        b"prefix 010203040506070f\ntopic T transient hash 1 - 20 300 - 0\ntopic N/_9 persistent none all 4 - - 1 60\nwriter a1a1a1a1a1a1a1a1a1a1a1a100000103 T 2147483647\nwriter a1a1a1a1a1a1a1a1a1a1a1a100000102 N/_9 -\nreader b2b2b2b2b2b2b2b2b2b2b2b200000107 T transient_local\nend\n";
+    match read(alloc, text) {
+        Ok(plan) => match write_plan(alloc, &plan) {
+            Ok(text) => assert!(rt; text.as_slice() == written.as_slice()),
+            Err(_) => assert!(rt; false),
+        },
         Err(_) => assert!(rt; false),
     }
 }
