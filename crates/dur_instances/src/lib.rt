@@ -1,0 +1,18 @@
+//! The history of one topic: its instances and its kept changes.
+#![tactic(auto)]
+
+mod cells;
+mod changes;
+mod due;
+mod from_view;
+mod instances;
+mod lines;
+mod listing;
+mod registered;
+mod within;
+mod would;
+
+pub use instances::Instances;
+
+#[cfg(test)]
+mod tests;
