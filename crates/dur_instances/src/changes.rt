@@ -71,11 +71,14 @@ pub fn sweep(changes: &mut Vec<Change>, cells: &Sorted, longest: u64, now: Ticks
     changes.retain(|c| !is_gone(cells, longest, now, c));
 }
 
-/// Forgets the changes after which as many came as the topic is deep.
+/// Forgets the changes after which as many came as the topic is deep: none, where it keeps all.
 pub fn displace(changes: &mut Vec<Change>, cells: &Sorted, depth: Option<u32>)
     ensures items { changes.new.items ≡ filter (λ c. not (is_deep_in cells.now depth c)) changes.old.items }
     ensures len { vec_len changes.new ≤ vec_len changes.old }
     ensures capacity { vec_capacity changes.new ≡ vec_capacity changes.old }
 {
-    changes.retain(|c| !is_deep(cells, depth, c));
+    match depth {
+        None => {}
+        Some(_) => changes.retain(|c| !is_deep(cells, depth, c)),
+    }
 }

@@ -1,11 +1,11 @@
 //! When something that is kept falls due.
 
 ghost use Rattle.std.specs.Prelude.{◌≡◌, min, nat_lt};
-ghost use Rattle.dur_instances.specs.Due.{purged_from, expired_from, due_cells, due_changes, due_of};
+ghost use Rattle.dur_instances.specs.Due.{purged_from, expired_from, due_cells, due_changes, due_of, due_with, due_by};
 
 use crate::cells::Cell;
 use crate::changes::Change;
-use dur_base::Ticks;
+use dur_base::{Sample, Ticks};
 
 /// Whether a moment comes before another.
 pub fn is_before(a: Ticks, b: Ticks) -> bool
@@ -61,6 +61,20 @@ fn due_changes(changes: &[Change]) -> u64
         );
     }
     due
+}
+
+/// The moment, or an earlier one at which an instance that is quiet from this one on is purged.
+pub fn due_with(longest: u64, quiet: &Option<Ticks>, due: Ticks) -> Ticks
+    ensures { result ≡ due_with longest quiet.now due }
+{
+    Ticks(earlier(due.0, purged_from(longest, *quiet)))
+}
+
+/// The moment, or an earlier one at which the sample is expired.
+pub fn due_by(sample: &Sample, due: Ticks) -> Ticks
+    ensures { result ≡ due_by sample.now.lifespan sample.now.stamp due }
+{
+    Ticks(earlier(due.0, expired_from(sample.lifespan, sample.stamp)))
 }
 
 /// The least moment at which an instance is purged or a change expires.

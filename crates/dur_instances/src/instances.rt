@@ -9,7 +9,8 @@ ghost use Rattle.dur_view.specs.declared.change.TopicEvent.{TopicEvent};
 ghost use Rattle.dur_view.specs.declared.change.TopicEvent.TheVariants.{Effect, Gone};
 ghost use Rattle.dur_view.specs.Past.{Past, Begin, part, ◌▹◌, ◌▹▹◌};
 ghost use Rattle.dur_view.specs.IsSound.{IsSound};
-ghost use Rattle.dur_view.specs.Fates.{is_long, disposes, settings, existing, entitled};
+ghost use Rattle.dur_instances.specs.Layout.{places};
+ghost use Rattle.dur_view.specs.Fates.{is_long, is_nobody, disposes, settings, existing, entitled};
 ghost use Rattle.dur_view.specs.Refused.{passed};
 ghost use Rattle.dur_instances.specs.Trimmed.{row_at, blank};
 ghost use Rattle.dur_view.specs.Snapshot.{snap};
@@ -20,7 +21,7 @@ ghost use Rattle.dur_instances.specs.Would.{TakeEffect};
 
 use crate::cells::{self, Cell, Sorted, count_after, count_of, put, settle};
 use crate::changes::{self, Change};
-use crate::due::{due_of, is_before};
+use crate::due::{due_by, due_of, due_with, is_before};
 use crate::from_view::{cells_of, changes_of, registered_of};
 use crate::lines::{kept_over, lines_over};
 use crate::listing::entitled_over;
@@ -45,7 +46,7 @@ pub struct Instances {
 }
 
 impl Model for Instances {
-    ghost use Rattle.std.specs.Prelude.{◌≡◌, ◌-◌, ◌*◌, ◌^◌, min, vec_len, vec_capacity};
+    ghost use Rattle.std.specs.Prelude.{◌≤◌, ◌-◌, ◌*◌, ◌^◌, min, vec_len, vec_capacity};
     ghost use Rattle.dur_instances.specs.Due.{due_of};
     ghost use Rattle.dur_instances.specs.Trimmed.{Trimmed, trimmed_code};
     ghost use Rattle.dur_instances.specs.Layout.{rows_of, lates_of, IsLaid};
@@ -56,7 +57,7 @@ impl Model for Instances {
 
     ghost view = { λ s. record { settings = s.topic; last = s.last; rows = rows_of s.cells.items s.registered.items; kept = lates_of s.cells.items s.changes.items; room = min (vec_capacity s.cells - vec_len s.cells) (min (vec_capacity s.registered - vec_len s.registered) (vec_capacity s.changes - vec_len s.changes)) } };
 
-    ghost invariant = { λ s. IsLaid s.topic s.cells.items s.registered.items s.changes.items × (s.due ≡ due_of (s.topic.delay * 2 ^ 32) s.cells.items s.changes.items) };
+    ghost invariant = { λ s. IsLaid s.topic s.cells.items s.registered.items s.changes.items × (s.due ≤ due_of (s.topic.delay * 2 ^ 32) s.cells.items s.changes.items) };
 }
 
 impl Instances {
@@ -160,12 +161,15 @@ impl Instances {
         ensures room { self.old.room ≤ self.new.room + 1 }
     {
         self.sweep(moment);
+        let due = due_by(&sample, self.due);
         let key = sample.key;
         let act = sample.act;
         let depth = self.topic.depth;
         enroll(&mut self.registered, act, Registered { key, by: writer });
         let disposed = disposes(act);
-        let quiet = quiet_from(disposed, is_nobody(&self.registered, key), moment);
+        let quiet = quiet_from(disposed, &self.registered, key, moment);
+        let longest = self.topic.delay as u64 * 4_294_967_296;
+        let due = due_with(longest, &quiet, due);
         let count = count_after(depth, count_of(&Sorted::of(&self.cells), key));
         let cell = Cell {
             key,
@@ -183,8 +187,7 @@ impl Instances {
         };
         push_within(&mut self.changes, change);
         changes::displace(&mut self.changes, &Sorted::of(&self.cells), depth);
-        let longest = self.topic.delay as u64 * 4_294_967_296;
-        self.due = due_of(longest, &self.cells, &self.changes);
+        self.due = due;
     }
 
     /// An unregister of the writer at a place of the view, from 0, takes effect.
@@ -199,7 +202,7 @@ impl Instances {
         leave(&mut self.registered, &Registered { key, by: writer });
         settle(&mut self.cells, &self.registered, moment);
         let longest = self.topic.delay as u64 * 4_294_967_296;
-        self.due = due_of(longest, &self.cells, &self.changes);
+        self.due = due_with(longest, &Some(moment), self.due);
     }
 
     /// The writer at a place of the view, from 0, is lost.
@@ -214,7 +217,7 @@ impl Instances {
         leave_all(&mut self.registered, writer);
         settle(&mut self.cells, &self.registered, moment);
         let longest = self.topic.delay as u64 * 4_294_967_296;
-        self.due = due_of(longest, &self.cells, &self.changes);
+        self.due = due_with(longest, &Some(moment), self.due);
     }
 
     /// The first limit of the topic that is passed when these samples take effect at the moment, if any. Nothing is forgotten.
@@ -298,10 +301,10 @@ fn disposes(act: Act) -> bool
 }
 
 // When an instance becomes quiet at the moment, if it does.
-fn quiet_from(disposed: bool, nobody: bool, moment: Ticks) -> Option<Ticks>
-    ensures { result ≡ (if disposed && nobody then Some moment else None) }
+fn quiet_from(disposed: bool, list: &[Registered], key: Key, moment: Ticks) -> Option<Ticks>
+    ensures { result ≡ (if disposed && is_nobody (places list.now key) then Some moment else None) }
 {
-    if disposed && nobody {
+    if disposed && is_nobody(list, key) {
         Some(moment)
     } else {
         None

@@ -270,6 +270,68 @@ fn any_new_over(
     false
 }
 
+// Whether more instances exist than the limit, when the samples took effect.
+fn are_instances_over(
+    limit: Option<u32>,
+    cells: &Sorted,
+    longest: u64,
+    now: Ticks,
+    samples: &[Sample],
+) -> bool
+    ensures { result ≡ is_over limit (length (cells_there cells.now longest now) + new_keys (is_there_in cells.now longest now) samples.now) }
+{
+    match limit {
+        None => false,
+        Some(_) => {
+            let there = count_there(cells, longest, now) as u128;
+            is_over(
+                limit,
+                there + count_new(cells, longest, now, samples) as u128,
+            )
+        }
+    }
+}
+
+// Whether an instance that exists when the samples took effect has more changes left than the limit.
+fn is_any_over(
+    limit: Option<u32>,
+    cells: &Sorted,
+    changes: &[Change],
+    depth: Option<u32>,
+    longest: u64,
+    now: Ticks,
+    samples: &[Sample],
+) -> bool
+    ensures { result ≡ any_there cells.now longest now samples.now (λ k. is_over limit (count_asked (Some k) (left_after cells.now changes.now depth longest now samples.now))) }
+{
+    match limit {
+        None => false,
+        Some(_) => any_kept_over(limit, cells, changes, depth, longest, now, samples)
+            || any_new_over(limit, cells, changes, depth, longest, now, samples),
+    }
+}
+
+// Whether more changes are left than the limit, when the samples took effect.
+fn are_changes_over(
+    limit: Option<u32>,
+    cells: &Sorted,
+    changes: &[Change],
+    depth: Option<u32>,
+    longest: u64,
+    now: Ticks,
+    samples: &[Sample],
+) -> bool
+    ensures { result ≡ is_over limit (count_asked None (left_after cells.now changes.now depth longest now samples.now)) }
+{
+    match limit {
+        None => false,
+        Some(_) => is_over(
+            limit,
+            count_left(cells, changes, depth, longest, now, samples, &None),
+        ),
+    }
+}
+
 /// The first limit that is passed when the samples took effect at the moment.
 pub fn would_over(
     topic: &Topic,
@@ -281,20 +343,27 @@ pub fn would_over(
     ensures { result ≡ passed_after topic.now cells.now changes.now (topic.now.delay * 2 ^ 32) now samples.now }
 {
     let longest = topic.delay as u64 * 4_294_967_296;
-    let there = count_there(cells, longest, now) as u128;
-    let most = topic.max_per_instance;
-    if is_over(
-        topic.max_instances,
-        there + count_new(cells, longest, now, samples) as u128,
-    ) {
+    let depth = topic.depth;
+    if are_instances_over(topic.max_instances, cells, longest, now, samples) {
         Some(Limit::Instances)
-    } else if any_kept_over(most, cells, changes, topic.depth, longest, now, samples)
-        || any_new_over(most, cells, changes, topic.depth, longest, now, samples)
-    {
+    } else if is_any_over(
+        topic.max_per_instance,
+        cells,
+        changes,
+        depth,
+        longest,
+        now,
+        samples,
+    ) {
         Some(Limit::PerInstance)
-    } else if is_over(
+    } else if are_changes_over(
         topic.max_samples,
-        count_left(cells, changes, topic.depth, longest, now, samples, &None),
+        cells,
+        changes,
+        depth,
+        longest,
+        now,
+        samples,
     ) {
         Some(Limit::Samples)
     } else {

@@ -1,4 +1,4 @@
-use Rattle.std.proofs.Common.{◌≡◌, ℕ, ◌<◌, ◌*◌, ◌^◌, Some, List, [], map, rules, sym, ap, ◌∙◌, subst}
+use Rattle.std.proofs.Common.{◌≡◌, ℕ, ◌<◌, ◌*◌, ◌^◌, Some, List, [], map, rules, sym, ap, ◌∙◌, subst, arith}
 use Rattle.dur_qos.specs.declared.plan.Topic.{Topic}
 use Rattle.dur_view.specs.declared.data.Instance.{Instance}
 use Rattle.dur_view.specs.declared.data.Kept.{Kept}
@@ -27,8 +27,8 @@ invariant_of-result c =
           (c.in_ok-cells.ensures ∙ ap (λ (l : List Instance). map cell_of_line (lines_in t l)) c.as_slice-lines.ensures)
           (c.in_ok-registered.ensures ∙ ap (λ (l : List Instance). with_lines (lines_in t l) []) c.as_slice-lines.ensures)
           (c.in_ok-changes.ensures ∙ ap (λ (l : List Instance). changes_in s.depth t l c.as_slice.result.now) c.as_slice-lines.ensures ∙ ap (λ (l : List Kept). changes_in s.depth t v.instances l) c.as_slice.ensures)),
-      c.due_of.ensures ∙ ap (λ (l : List Cell). due_of (s.delay * 2 ^ 32) l c.deref-2.result.now) c.deref.ensures.value ∙ ap (λ (l : List Change). due_of (s.delay * 2 ^ 32) cells l) c.deref-2.ensures.value
-          ∙ ap (λ (x : Topic). due_of (x.delay * 2 ^ 32) cells changes) (sym c.copy.ensures),
+      (let is = c.due_of.ensures ∙ ap (λ (l : List Cell). due_of (s.delay * 2 ^ 32) l c.deref-2.result.now) c.deref.ensures.value ∙ ap (λ (l : List Change). due_of (s.delay * 2 ^ 32) cells l) c.deref-2.ensures.value
+          ∙ ap (λ (x : Topic). due_of (x.delay * 2 ^ 32) cells changes) (sym c.copy.ensures) in omega arith),
     )
 
 pub returns-clause-stands : goal.returns-clause-stands

@@ -37,7 +37,7 @@ returns-then-is_before-clause-awake c =
 pub invariant_of-self-2 : goal.invariant_of-self-2
 invariant_of-self-2 c = (
   (swept _ _ _ _ _ _ _ c.self.invariant.0 _ _ refl (c.of.ensures ∙ c.deref.ensures.value) c.sweep-2.ensures.items c.sweep.ensures.items).laid,
-  c.due_of-self-inside.ensures ∙ ap (λ (l : List Cell). due_of (c.self.inside.topic.delay * 2 ^ 32) l c.deref-3.result.now) c.deref-2.ensures.value ∙ ap (λ (l : List Change). due_of (c.self.inside.topic.delay * 2 ^ 32) c.sweep-2.new.cells.items l) c.deref-3.ensures.value,
+  (let is = c.due_of-self-inside.ensures ∙ ap (λ (l : List Cell). due_of (c.self.inside.topic.delay * 2 ^ 32) l c.deref-3.result.now) c.deref-2.ensures.value ∙ ap (λ (l : List Change). due_of (c.self.inside.topic.delay * 2 ^ 32) c.sweep-2.new.cells.items l) c.deref-3.ensures.value in omega arith),
 )
 
 pub returns-clause-stands : goal.returns-clause-stands
