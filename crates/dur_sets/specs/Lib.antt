@@ -1,0 +1,4 @@
+pub mod Open
+pub mod Answers
+pub mod Tells
+pub mod Stands
