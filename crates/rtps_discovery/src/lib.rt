@@ -1,0 +1,12 @@
+//! What captured discovery traffic announces (DDSI-RTPS 8.5), and the plan that is learnt from it.
+#![tactic(auto)]
+
+mod announcement;
+mod list;
+mod parameter;
+mod payload;
+mod reading;
+mod source;
+
+pub use announcement::Announcement;
+pub use reading::read_announcement;
