@@ -1,5 +1,6 @@
 -- The parameter list of a payload as a text (DDSI-RTPS 9.4.2.11), and the payload around it (9.4.2.12).
-use Rattle.std.specs.Prelude.{◌≡◌, ◌≢◌, ℕ, ◌%◌, ◌<◌, ◌^◌, Bool, true, false, List, [], ◌∷◌, ◌++◌, length, map, Some}
+use Rattle.std.specs.Prelude.{◌≡◌, ◌≢◌, ℕ, ◌%◌, ◌<◌, ◌^◌, Bool, true, false, List, [], ◌∷◌, ◌++◌, length, map, Option, Some, None, if◌then◌else◌}
+use Rattle.std.specs.Str.{bytes_eq}
 use Rattle.std.specs.List.{AllByRecursion}
 use Rattle.std.specs.Int.{w16}
 use Rattle.dur_base.specs.Fields.{octets}
@@ -56,6 +57,13 @@ pub record ListTells (topics : List Topic) (little : Bool) (bytes : List ℕ) (l
 abbrev pub representation : Bool → List ℕ
 representation true = 0 ∷ 3 ∷ []
 representation false = 0 ∷ 2 ∷ []
+
+-- whether the byte order of that representation is little-endian
+abbrev pub order_of : List ℕ → Option Bool
+order_of octets =
+    if bytes_eq octets (representation false) then Some false
+    else if bytes_eq octets (representation true) then Some true
+    else None
 
 -- A payload is a representation, two octets of options, and a list in the byte order of the representation.
 pub record PayloadTells (topics : List Topic) (payload : List ℕ) (l : Listed) : Type 0 where

@@ -31,4 +31,4 @@ next_at topics little bytes =
 
 -- what a function returned is what reading gives
 abbrev pub Gives : Option (Option (Parameter × Bor (List ℕ))) → Option Step → Type 0
-Gives result read = option_map (λ (o : Option (Parameter × Bor (List ℕ))). option_map (λ (x : Parameter × Bor (List ℕ)). (x.0, x.1.now)) o) result ≡ read
+Gives result read = read ≡ option_map (λ (o : Option (Parameter × Bor (List ℕ))). option_map (λ (x : Parameter × Bor (List ℕ)). (x.0, x.1.now)) o) result

@@ -59,10 +59,10 @@ fn leaving(topics: &[Topic], source: Source, raw: &Raw) -> Option<Guid>
     ensures some { IfSome result (λ g. Leaves topics.now source raw.now.hash raw.now.payload g) }
     ensures all { (g : List ℕ) → Leaves topics.now source raw.now.hash raw.now.payload g → result ≡ Some g }
 {
-    if let Some(key) = raw.hash {
-        return Some(Guid(key.0));
+    match raw.hash {
+        Some(key) => Some(Guid(key.0)),
+        None => subject(source, &read_payload(topics, raw.payload.as_slice())?),
     }
-    subject(source, &read_payload(topics, raw.payload.as_slice())?)
 }
 
 /// What a DATA of that builtin writer says, of whomever.
