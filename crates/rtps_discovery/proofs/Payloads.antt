@@ -100,7 +100,7 @@ says_none topics source raw read zero none all a (inr x) = x.0 zero
 
 -- ---- who says it
 
-source_again : (source : Source) → source_of (id_of source) ≡ Some source
+pub source_again : (source : Source) → source_of (id_of source) ≡ Some source
 source_again Participants = refl
 source_again Publications = refl
 source_again Subscriptions = refl

@@ -16,6 +16,7 @@ use Rattle.dur_qos.specs.Plan.{has_writer, has_reader}
 use Rattle.dur_qos.specs.Served.{rank}
 use Rattle.rtps_discovery.specs.declared.announcement.Announcement.{Announcement}
 use Rattle.rtps_discovery.specs.declared.announcement.Announcement.TheVariants.{Participant, Writer, Reader, Gone}
+use Rattle.rtps_discovery.specs.declared.announcement.Told.{Told}
 use Rattle.rtps_discovery.specs.Sources.{participant_of}
 use Rattle.rtps_discovery.specs.Announcing.{guid_of, Announces}
 
@@ -24,13 +25,7 @@ pub record HeardFact : Type 0 where
   pub moment : ℕ
   pub fact : Fact
 
--- an announcement, and how it was heard
-pub record Told : Type 0 where
-  pub writer : List ℕ
-  pub number : ℕ
-  pub moment : ℕ
-  pub what : Announcement
-
+-- whom it is about
 abbrev pub about : Told → List ℕ
 about t = guid_of t.what
 
@@ -54,13 +49,14 @@ AreTold plan (h ∷ hs) told =
 
 -- ---- which announcements count
 
--- of the same GUID, and from the same writer
-abbrev pub is_alike : Told → Told → Bool
-is_alike a b = bytes_eq a.writer b.writer && bytes_eq (about a) (about b)
+-- of that GUID no number above this one was heard from that writer
+abbrev pub none_above : List ℕ → List ℕ → ℕ → List Told → Bool
+none_above writer guid number before =
+    list_all (λ b. not (bytes_eq b.writer writer && bytes_eq (about b) guid) || nat_le b.number number) before
 
 -- its number is at least all that were heard before of that GUID from that writer
 abbrev pub counts : List Told → Told → Bool
-counts before t = list_all (λ b. not (is_alike t b) || nat_le b.number t.number) before
+counts before t = none_above t.writer (about t) t.number before
 
 -- those that count, where others were heard before
 abbrev pub counted_after : List Told → List Told → List Told

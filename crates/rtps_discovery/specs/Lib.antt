@@ -5,3 +5,7 @@ pub mod Lists
 pub mod Reading
 pub mod Announcing
 pub mod Learnt
+pub mod Told
+pub mod Entries
+pub mod Hearing
+pub mod Lines

@@ -3,7 +3,7 @@
 ghost use Rattle.std.specs.Prelude.{◌≡◌};
 ghost use Rattle.rtps_discovery.specs.Announcing.{guid_of};
 
-use dur_base::{Durability, Guid, Ticks};
+use dur_base::{Durability, Guid, Number, Ticks};
 
 /// What one DATA of a builtin writer announces (DDSI-RTPS 8.5.3, 8.5.4).
 #[derive(Clone, Copy, Debug, PartialEq, Eq, Drop)]
@@ -32,6 +32,18 @@ pub enum Announcement {
     },
     /// A participant, writer or reader has left.
     Gone(Guid),
+}
+
+/// An announcement, and how it was heard.
+#[derive(Clone, Copy, Debug, PartialEq, Eq, Drop)]
+pub struct Told {
+    /// The builtin writer that announced it.
+    pub writer: Guid,
+    /// The number of the DATA.
+    pub number: Number,
+    /// When it was heard.
+    pub moment: Ticks,
+    pub what: Announcement,
 }
 
 impl Announcement {

@@ -2,6 +2,9 @@
 #![tactic(auto)]
 
 mod announcement;
+mod directory;
+mod entry;
+mod lines;
 mod list;
 mod parameter;
 mod payload;
@@ -9,4 +12,5 @@ mod reading;
 mod source;
 
 pub use announcement::Announcement;
+pub use directory::Directory;
 pub use reading::read_announcement;

@@ -2,13 +2,15 @@
 
 ghost use Rattle.std.specs.Prelude.{◌≡◌, ℕ, List, Some, IfSome};
 ghost use Rattle.rtps_discovery.specs.declared.announcement.Announcement.{Announcement};
+ghost use Rattle.rtps_discovery.specs.declared.announcement.Told.{Told};
+ghost use Rattle.rtps_discovery.specs.Learnt.{IsTold};
 ghost use Rattle.rtps_discovery.specs.Announcing.{Announces, Says, Leaves, subject, participant, present};
 
-use crate::announcement::Announcement;
+use crate::announcement::{Announcement, Told};
 use crate::list::Listed;
 use crate::payload::read_payload;
 use crate::source::{PARTICIPANT, Source, source_of};
-use dur_base::{Guid, Raw};
+use dur_base::{Fact, Guid, Raw, Ticks};
 use dur_qos::{Plan, Topic};
 
 /// The participant of that GUID, or None where it is no participant's.
@@ -93,5 +95,32 @@ pub fn read_announcement(plan: &Plan, writer: Guid, raw: &Raw) -> Option<Announc
         Some(announcement)
     } else {
         None
+    }
+}
+
+/// What a fact announces, heard at this moment, or None where it announces nothing.
+pub fn told(plan: &Plan, moment: Ticks, fact: &Fact) -> Option<Told>
+    ensures some { IfSome result (λ t. IsTold plan.now moment fact.now t) }
+    ensures all { (t : Told) → IsTold plan.now moment fact.now t → result ≡ Some t }
+{
+    match fact {
+        Fact::Data {
+            writer,
+            number,
+            raw,
+            ..
+        } => match read_announcement(plan, *writer, raw) {
+            Some(what) => Some(Told {
+                writer: *writer,
+                number: *number,
+                moment,
+                what,
+            }),
+            None => None,
+        },
+        Fact::Unreadable { .. } => None,
+        Fact::Gap { .. } => None,
+        Fact::Beat { .. } => None,
+        Fact::Nack { .. } => None,
     }
 }
