@@ -3,3 +3,8 @@ pub mod Loop
 pub mod Payloads
 pub mod Keeping
 pub mod Noting
+pub mod Lasts
+pub mod Alive
+pub mod Unique
+pub mod NewLines
+pub mod Goods

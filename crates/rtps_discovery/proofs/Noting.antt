@@ -3,6 +3,7 @@ use Rattle.std.proofs.Common.{◌≡◌, ℕ, ◌+◌, Bool, true, false, List, 
 use Rattle.std.specs.Prelude.{nat_lt, cond}
 use Rattle.std.specs.BTreeMap.{BTreeMap, get, is_at}
 use Rattle.std.specs.Cmp.Lexicographic.{slice_cmp}
+use Rattle.std.specs.List.{AllByRecursion}
 use Rattle.std.specs.Map.{lookup}
 use Rattle.std.specs.Ordering.{nat_cmp}
 use Rattle.std.specs.Str.{bytes_eq}
@@ -91,3 +92,7 @@ pub told_nothing : (plan : Plan) (moment : ℕ) (fact : Fact) (writer reader : L
 told_nothing plan moment fact writer reader number raw read e all none t is =
     let here = subst (λ (f : Fact). IsTold plan moment f t) e is in
     not_none read t.what none (all t.what here.1)
+
+pub all_more : {X : Type 0} (P : X → Type 0) (xs : List X) (x : X) → AllByRecursion P xs → P x → AllByRecursion P (xs ++ x ∷ [])
+all_more P [] x all one = (one, tt)
+all_more P (y ∷ xs) x all one = (all.0, all_more P xs x all.1 one)

@@ -25,7 +25,7 @@ length_representation : (little : Bool) → length (representation little) ≡ 2
 length_representation true = refl
 length_representation false = refl
 
-order_again : (little : Bool) → order_of (representation little) ≡ Some little
+pub order_again : (little : Bool) → order_of (representation little) ≡ Some little
 order_again true = refl
 order_again false = refl
 
@@ -39,10 +39,10 @@ order_back : (octets : List ℕ) (little : Bool) → order_of octets ≡ Some li
 order_back octets little e =
     of_two (λ b. octets ≡ representation b) (bytes_eq octets (representation false)) (bytes_eq octets (representation true)) false true little e (bytes_eq-Decides octets (representation false)).0 (bytes_eq-Decides octets (representation true)).0
 
-front_is : (topics : List Topic) (payload : List ℕ) (l : Listed) (x : PayloadTells topics payload l) → take 2 payload ≡ representation x.little
+pub front_is : (topics : List Topic) (payload : List ℕ) (l : Listed) (x : PayloadTells topics payload l) → take 2 payload ≡ representation x.little
 front_is topics payload l x = ap (take 2) x.parts ∙ take_at (representation x.little) (x.options ++ x.list) 2 (length_representation x.little)
 
-list_is : (topics : List Topic) (payload : List ℕ) (l : Listed) (x : PayloadTells topics payload l) → drop 2 (drop 2 payload) ≡ x.list
+pub list_is : (topics : List Topic) (payload : List ℕ) (l : Listed) (x : PayloadTells topics payload l) → drop 2 (drop 2 payload) ≡ x.list
 list_is topics payload l x =
     ap (drop 2) (ap (drop 2) x.parts ∙ drop_at (representation x.little) (x.options ++ x.list) 2 (length_representation x.little)) ∙ drop_at x.options x.list 2 x.two
 

@@ -2,6 +2,7 @@
 use Rattle.std.specs.Prelude.{◌≡◌, ℕ, ◌+◌, ◌&&◌, Bool, List, [], ◌∷◌, ◌++◌, length, take, Option, Some, None, nat_le, if◌then◌else◌}
 use Rattle.std.specs.BTreeMap.{get}
 use Rattle.std.specs.Cmp.Lexicographic.{slice_cmp}
+use Rattle.std.specs.List.{AllByRecursion}
 use Rattle.std.specs.Option.{option_or}
 use Rattle.std.specs.Ordering.{nat_cmp}
 use Rattle.std.specs.Str.{bytes_eq}
@@ -11,6 +12,7 @@ use Rattle.rtps_discovery.specs.declared.directory.Directory.{Directory}
 use Rattle.rtps_discovery.specs.declared.entry.Entry.{Entry}
 use Rattle.rtps_discovery.specs.declared.source.Source.{Source}
 use Rattle.rtps_discovery.specs.Entries.{number_of, numbers_in, farewell_in, is_gone}
+use Rattle.rtps_discovery.specs.Fits.{Fits}
 use Rattle.rtps_discovery.specs.Learnt.{HeardFact, AreTold, about, none_above, counted}
 use Rattle.rtps_discovery.specs.Sources.{id_of}
 
@@ -49,6 +51,10 @@ pub record KeepsBy (count : ℕ) (kept : List ℕ → Option Entry) (told : List
 abbrev pub Keeps : Directory → List Told → Type 0
 Keeps d told = KeepsBy d.count (get (slice_cmp nat_cmp) d.entries) told
 
+-- all that was told has leases and topics that fit
+abbrev pub AllFit : Plan → List Told → Type 0
+AllFit plan told = AllByRecursion (λ t. Fits plan.topics t.what) told
+
 -- The directory stands for these facts, which it was handed in this order, under this plan.
 unfoldable pub Heard : Plan → Directory → List HeardFact → Type 0
-Heard plan d facts = (told : List Told) × AreTold plan facts told × Keeps d told
+Heard plan d facts = (told : List Told) × AreTold plan facts told × AllFit plan told × Keeps d told

@@ -9,3 +9,4 @@ pub mod Told
 pub mod Entries
 pub mod Hearing
 pub mod Lines
+pub mod Fits

@@ -4,6 +4,8 @@
 mod announcement;
 mod directory;
 mod entry;
+mod fault;
+mod learning;
 mod lines;
 mod list;
 mod parameter;
@@ -13,4 +15,5 @@ mod source;
 
 pub use announcement::Announcement;
 pub use directory::Directory;
+pub use fault::LearnFault;
 pub use reading::read_announcement;

@@ -4,11 +4,12 @@ ghost use Rattle.std.specs.Prelude.{◌≡◌, ◌++◌, ◌-◌, ◌^◌, min, 
 ghost use Rattle.std.specs.BTreeMap.{IsOrdered};
 ghost use Rattle.std.specs.Cmp.Lexicographic.{slice_cmp};
 ghost use Rattle.std.specs.List.{filter_map};
+ghost use Rattle.std.specs.Option.{option_copied};
 ghost use Rattle.std.specs.Ordering.{nat_cmp};
 ghost use Rattle.dur_qos.specs.Plan.{has_writer, has_reader};
 ghost use Rattle.dur_qos.specs.Served.{rank};
 ghost use Rattle.rtps_discovery.specs.Learnt.{seconds_of};
-ghost use Rattle.rtps_discovery.specs.Lines.{is_within, lease_at, lease_line, takes, writer_at, reader_at};
+ghost use Rattle.rtps_discovery.specs.Lines.{is_within, lease_of, lease_at, lease_line, takes, writer_at, reader_at};
 
 use crate::announcement::Announcement;
 use crate::directory::Directory;
@@ -102,6 +103,24 @@ fn has_reader(readers: &[ReaderLine], guid: Guid) -> bool
     false
 }
 
+/// The lease of a participant that announced itself last, which holds still, and which did not leave after that place.
+fn lease_of(entry: Option<&Entry>, place: u64, now: Ticks) -> Option<Option<Ticks>>
+    ensures { result ≡ lease_of (option_copied entry.entry) place now }
+{
+    let entry = *entry?;
+    let last = entry.last;
+    let Announcement::Participant { lease, .. } = last else {
+        return None;
+    };
+    if place < entry.farewell {
+        None
+    } else if is_within(lease, entry.moment, now) {
+        Some(lease)
+    } else {
+        None
+    }
+}
+
 impl Directory {
     /// The lease of the participant of an endpoint that was announced at that place, where it is alive and did not
     /// leave since.
@@ -109,19 +128,7 @@ impl Directory {
         ensures { result ≡ lease_at self.now guid place now }
     {
         let participant = Guid::of(guid.prefix(), PARTICIPANT);
-        let entry = self.entries.get(&participant.0).copied()?;
-        match entry.last {
-            Announcement::Participant { lease, .. } => {
-                if place < entry.farewell {
-                    None
-                } else if is_within(lease, entry.moment, now) {
-                    Some(lease)
-                } else {
-                    None
-                }
-            }
-            _ => None,
-        }
+        lease_of(self.entries.get(&participant.0), place, now)
     }
 
     /// The line of a writer, where the entry gives one.

@@ -1,6 +1,8 @@
 //! Reading the parameter list of a payload from left to right (DDSI-RTPS 9.4.2.11).
 
-ghost use Rattle.std.specs.Prelude.{◌≡◌, [], Some, IfSome};
+ghost use Rattle.std.specs.Prelude.{◌≡◌, List, [], Some, IfSome};
+ghost use Rattle.dur_qos.specs.declared.plan.Topic.{Topic as TopicLine};
+ghost use Rattle.rtps_discovery.specs.Fits.{FitsParameter, FitsListed};
 ghost use Rattle.rtps_discovery.specs.declared.list.Listed.{Listed};
 ghost use Rattle.rtps_discovery.specs.Meaning.{listed_of, with_parameter};
 ghost use Rattle.rtps_discovery.specs.Lists.{ListTells};
@@ -29,7 +31,8 @@ impl Listed {
     /// What a list without parameters tells.
     #[tactic(auto, unfolding(crate::specs::Meaning::listed_of))]
     fn nothing() -> Listed
-        ensures { result ≡ listed_of [] }
+        ensures value { result ≡ listed_of [] }
+        ensures fits { (topics : List TopicLine) → FitsListed topics result }
     {
         Listed {
             lease: Some(Ticks(100 * TICKS_OF_A_SECOND)),
@@ -42,7 +45,8 @@ impl Listed {
 
     /// The same after one parameter more.
     fn with(self, parameter: Parameter) -> Listed
-        ensures { result ≡ with_parameter self parameter }
+        ensures value { result ≡ with_parameter self parameter }
+        ensures fits { (topics : List TopicLine) → FitsListed topics self → FitsParameter topics parameter → FitsListed topics result }
     {
         match parameter {
             Parameter::Lease(lease) => Listed { lease, ..self },
@@ -68,7 +72,8 @@ fn next_of<'a>(
     bytes: &'a [u8],
     little: bool,
 ) -> Option<Option<(Parameter, &'a [u8])>>
-    ensures { Gives result (next_at topics.now little bytes.now) }
+    ensures gives { Gives result (next_at topics.now little bytes.now) }
+    ensures fits { IfSome result (λ o. IfSome o (λ x. FitsParameter topics.now x.0)) }
 {
     if bytes.len() < 4 {
         return None;
@@ -94,6 +99,7 @@ fn next_of<'a>(
 /// memory (DDSI-RTPS 9.4.2.11).
 pub fn read_list(topics: &[Topic], bytes: &[u8], little: bool) -> Option<Listed>
     ensures some { IfSome result (λ l. ListTells topics.now little bytes.now l) }
+    ensures fits { IfSome result (FitsListed topics.now) }
     ensures all { (l : Listed) → ListTells topics.now little bytes.now l → result ≡ Some l }
 {
     let mut listed = Listed::nothing();

@@ -1,8 +1,10 @@
 //! One parameter of a payload: its id, and what its value tells (DDSI-RTPS 9.6.3).
 
-ghost use Rattle.std.specs.Prelude.{◌≡◌, ◌≤◌, length, take};
+ghost use Rattle.std.specs.Prelude.{◌≡◌, ◌<◌, length, List, IfSome};
 ghost use Rattle.rtps_discovery.specs.Table.{place_at, lease_at, topic_at, kind_of, kind_at, parameter_at, guid_at, within_32};
+ghost use Rattle.dur_qos.specs.declared.plan.Topic.{Topic as TopicLine};
 ghost use Rattle.dur_qos.specs.Plan.{place_of};
+ghost use Rattle.rtps_discovery.specs.Fits.{FitsParameter, IsPlace};
 
 use dur_base::{Durability, Guid, TICKS_OF_A_SECOND, Ticks, u32_of};
 use dur_qos::Topic;
@@ -47,7 +49,8 @@ pub enum Parameter {
 
 /// The place of the topic with that name.
 fn place_in(topics: &[Topic], name: &[u8]) -> Option<usize>
-    ensures { result ≡ place_of name.now topics.now }
+    ensures value { result ≡ place_of name.now topics.now }
+    ensures within { IfSome result (λ i. i < length topics.now) }
 {
     let mut rest = topics;
     let mut place = 0;
@@ -63,7 +66,8 @@ fn place_in(topics: &[Topic], name: &[u8]) -> Option<usize>
 
 /// The same as 32 bits, as a plan's lines have it.
 fn place_of(topics: &[Topic], name: &[u8]) -> Option<u32>
-    ensures { result ≡ place_at topics.now name.now }
+    ensures value { result ≡ place_at topics.now name.now }
+    ensures within { IsPlace topics.now result }
 {
     let place = place_in(topics, name)?;
     u32::try_from(place).ok()
@@ -72,7 +76,8 @@ fn place_of(topics: &[Topic], name: &[u8]) -> Option<u32>
 /// What a lease duration tells, or None where it is too short or below 0.
 #[tactic(auto, unfolding(crate::specs::Table::lease_at))]
 fn lease_of(value: &[u8], little: bool) -> Option<Parameter>
-    ensures { result ≡ lease_at little value.now }
+    ensures value { result ≡ lease_at little value.now }
+    ensures fits { IfSome result (λ p. (topics : List TopicLine) → FitsParameter topics p) }
 {
     if value.len() < 8 {
         return None;
@@ -93,7 +98,8 @@ fn lease_of(value: &[u8], little: bool) -> Option<Parameter>
 /// What a topic name tells, or None where it does not fit or has no closing zero.
 #[tactic(auto, unfolding(crate::specs::Table::topic_at))]
 fn topic_of(topics: &[Topic], value: &[u8], little: bool) -> Option<Parameter>
-    ensures { result ≡ topic_at topics.now little value.now }
+    ensures value { result ≡ topic_at topics.now little value.now }
+    ensures fits { IfSome result (FitsParameter topics.now) }
 {
     if value.len() < 4 {
         return None;
@@ -126,7 +132,8 @@ fn kind_of(number: u32) -> Option<Durability>
 /// What a durability tells, or None where it is too short or no kind.
 #[tactic(auto, unfolding(crate::specs::Table::kind_at))]
 fn durability_of(value: &[u8], little: bool) -> Option<Parameter>
-    ensures { result ≡ kind_at little value.now }
+    ensures value { result ≡ kind_at little value.now }
+    ensures fits { IfSome result (λ p. (topics : List TopicLine) → FitsParameter topics p) }
 {
     if value.len() < 4 {
         return None;
@@ -150,7 +157,8 @@ fn guid_of(value: &[u8]) -> Option<Guid>
 /// What the parameter tells, or None where its value is bad. Ids are compared whole.
 #[tactic(auto, unfolding(crate::specs::Table::parameter_at))]
 pub fn parameter_of(topics: &[Topic], id: u16, value: &[u8], little: bool) -> Option<Parameter>
-    ensures { result ≡ parameter_at topics.now little id value.now }
+    ensures value { result ≡ parameter_at topics.now little id value.now }
+    ensures fits { IfSome result (FitsParameter topics.now) }
 {
     match id {
         LEASE => lease_of(value, little),

@@ -2,6 +2,7 @@
 
 ghost use Rattle.std.specs.Prelude.{◌≡◌, Some, IfSome};
 ghost use Rattle.rtps_discovery.specs.declared.list.Listed.{Listed};
+ghost use Rattle.rtps_discovery.specs.Fits.{FitsListed};
 ghost use Rattle.rtps_discovery.specs.Lists.{PayloadTells, order_of};
 
 use crate::list::{Listed, read_list};
@@ -22,6 +23,7 @@ fn order_of(representation: &[u8]) -> Option<bool>
 /// order. None where it has another representation or its list breaks (DDSI-RTPS 9.4.2.12). It takes no memory.
 pub fn read_payload(topics: &[Topic], payload: &[u8]) -> Option<Listed>
     ensures some { IfSome result (λ l. PayloadTells topics.now payload.now l) }
+    ensures fits { IfSome result (FitsListed topics.now) }
     ensures all { (l : Listed) → PayloadTells topics.now payload.now l → result ≡ Some l }
 {
     if payload.len() < 4 {

@@ -3,6 +3,8 @@
 ghost use Rattle.std.specs.Prelude.{◌≡◌, ℕ, List, Some, IfSome};
 ghost use Rattle.rtps_discovery.specs.declared.announcement.Announcement.{Announcement};
 ghost use Rattle.rtps_discovery.specs.declared.announcement.Told.{Told};
+ghost use Rattle.dur_qos.specs.declared.plan.Topic.{Topic as TopicLine};
+ghost use Rattle.rtps_discovery.specs.Fits.{Fits, FitsListed};
 ghost use Rattle.rtps_discovery.specs.Learnt.{IsTold};
 ghost use Rattle.rtps_discovery.specs.Announcing.{Announces, Says, Leaves, subject, participant, present};
 
@@ -15,7 +17,8 @@ use dur_qos::{Plan, Topic};
 
 /// The participant of that GUID, or None where it is no participant's.
 fn participant(guid: Guid, listed: &Listed) -> Option<Announcement>
-    ensures { result ≡ participant (Some guid) listed.now.lease }
+    ensures value { result ≡ participant (Some guid) listed.now.lease }
+    ensures fits { (topics : List TopicLine) → FitsListed topics listed.now → IfSome result (Fits topics) }
 {
     if guid.entity() == PARTICIPANT {
         Some(Announcement::Participant {
@@ -29,7 +32,8 @@ fn participant(guid: Guid, listed: &Listed) -> Option<Announcement>
 
 /// What a payload says to be there.
 fn present(source: Source, listed: &Listed) -> Option<Announcement>
-    ensures { result ≡ present source listed.now }
+    ensures value { result ≡ present source listed.now }
+    ensures fits { (topics : List TopicLine) → FitsListed topics listed.now → IfSome result (Fits topics) }
 {
     match source {
         Source::Participants => participant(listed.participant?, listed),
@@ -70,6 +74,7 @@ fn leaving(topics: &[Topic], source: Source, raw: &Raw) -> Option<Guid>
 /// What a DATA of that builtin writer says, of whomever.
 fn said(topics: &[Topic], source: Source, raw: &Raw) -> Option<Announcement>
     ensures some { IfSome result (λ a. Says topics.now source raw.now a) }
+    ensures fits { IfSome result (Fits topics.now) }
     ensures all { (a : Announcement) → Says topics.now source raw.now a → result ≡ Some a }
 {
     if raw.status == 0 {
@@ -88,6 +93,8 @@ pub fn read_announcement(plan: &Plan, writer: Guid, raw: &Raw) -> Option<Announc
     ensures some { IfSome result (λ a. Announces plan.now writer raw.now a) }
     // Whatever is announced is the answer; so None comes where nothing is.
     ensures all { (a : Announcement) → Announces plan.now writer raw.now a → result ≡ Some a }
+    // Its lease ends below 7fffffff seconds, or never, and its topic is one of the plan.
+    ensures fits { IfSome result (Fits plan.now.topics) }
 {
     let source = source_of(writer.entity())?;
     let announcement = said(plan.topics.as_slice(), source, raw)?;
@@ -101,6 +108,7 @@ pub fn read_announcement(plan: &Plan, writer: Guid, raw: &Raw) -> Option<Announc
 /// What a fact announces, heard at this moment, or None where it announces nothing.
 pub fn told(plan: &Plan, moment: Ticks, fact: &Fact) -> Option<Told>
     ensures some { IfSome result (λ t. IsTold plan.now moment fact.now t) }
+    ensures fits { IfSome result (λ t. Fits plan.now.topics t.what) }
     ensures all { (t : Told) → IsTold plan.now moment fact.now t → result ≡ Some t }
 {
     match fact {

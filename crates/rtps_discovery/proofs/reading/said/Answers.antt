@@ -8,4 +8,4 @@ returns-in_err-read_payload-clause-all c a h =
 
 pub returns-in_ok-read_payload-clause-all : goal.returns-in_ok-read_payload-clause-all
 returns-in_ok-read_payload-clause-all c a h =
-    c.present.ensures ∙ says_all c.args.topics.now c.args.source c.args.raw.now c.read_payload.result c.in_ok-read_payload.field-0 (search rules) c.in_ok-read_payload.was (only_read c.args.topics.now c.as_slice.result.now c.args.raw.now.payload c.read_payload.result c.as_slice.ensures c.read_payload.ensures.all) a h
+    c.present.ensures.value ∙ says_all c.args.topics.now c.args.source c.args.raw.now c.read_payload.result c.in_ok-read_payload.field-0 (search rules) c.in_ok-read_payload.was (only_read c.args.topics.now c.as_slice.result.now c.args.raw.now.payload c.read_payload.result c.as_slice.ensures c.read_payload.ensures.all) a h

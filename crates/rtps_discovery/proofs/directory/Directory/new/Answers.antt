@@ -10,4 +10,4 @@ use Rattle.rtps_discovery.proofs.directory.Directory.new.Goals as goal
 
 pub returns : goal.returns
 unfolding Heard
-returns c plan = ([], refl, keeps_nothing (get (slice_cmp nat_cmp) c.new.result) (λ q. ap (lookup (is_at (slice_cmp nat_cmp q))) c.new.ensures.empty))
+returns c plan = ([], refl, tt, keeps_nothing (get (slice_cmp nat_cmp) c.new.result) (λ q. ap (lookup (is_at (slice_cmp nat_cmp q))) c.new.ensures.empty))
