@@ -1,9 +1,9 @@
 -- Who is alive by what is kept.
-use Rattle.std.proofs.Common.{◌≡◌, ◌≢◌, ℕ, ◌+◌, ◌-◌, ◌*◌, ◌^◌, ◌<◌, ◌≤◌, Bool, true, false, ◌&&◌, List, [], ◌∷◌, ◌++◌, length, Option, Some, None, refl, sym, ap, subst, ◌∙◌, arith, inl, inr, if◌then◌else◌}
-use Rattle.std.specs.Prelude.{nat_lt, nat_le, slice_get, option_map, min, IfSome}
+use Rattle.std.proofs.Common.{◌≡◌, ℕ, ◌+◌, ◌*◌, ◌^◌, ◌<◌, ◌≤◌, Bool, true, false, List, ◌∷◌, length, Option, Some, None, refl, sym, ap, subst, ◌∙◌, arith, if◌then◌else◌}
+use Rattle.std.specs.Prelude.{nat_lt, slice_get, option_map}
 use Rattle.std.specs.BTreeMap.{get}
 use Rattle.std.specs.Cmp.Lexicographic.{slice_cmp}
-use Rattle.std.specs.List.{AllByRecursion, list_any}
+use Rattle.std.specs.List.{list_any}
 use Rattle.std.specs.Ordering.{nat_cmp}
 use Rattle.std.proofs.lemmas.Bool.{both_ways, leb-true, le-leb}
 use Rattle.std.proofs.lemmas.List.{length-append}
@@ -22,11 +22,11 @@ use Rattle.rtps_discovery.specs.declared.entry.Entry.{Entry}
 use Rattle.rtps_discovery.specs.Announcing.{guid_of}
 use Rattle.rtps_discovery.specs.Entries.{farewell_in}
 use Rattle.rtps_discovery.specs.Fits.{IsLease}
-use Rattle.rtps_discovery.specs.Hearing.{last_in, is_farewell, farewell_from, IsLastKept, IsKept, KeepsBy, Keeps}
-use Rattle.rtps_discovery.specs.Learnt.{about, counted, IsLast, IsWithin, IsAlive, IsThere, IsNewWriter, IsNewReader, seconds_of}
+use Rattle.rtps_discovery.specs.Hearing.{last_in, is_farewell, farewell_from, IsLastKept, KeepsBy, Keeps}
+use Rattle.rtps_discovery.specs.Learnt.{counted, IsLast, IsWithin, IsAlive, IsThere, IsNewWriter, IsNewReader, seconds_of}
 use Rattle.rtps_discovery.specs.Lines.{is_within, lease_in, lease_of, lease_at, lease_line, takes, writer_with, writer_in, reader_with, reader_in, writer_at, reader_at}
 use Rattle.rtps_discovery.specs.Sources.{participant_of}
-use Rattle.rtps_discovery.proofs.Lasts.{last_back, last_again, Stays, stays_from, stays_any, farewell_after}
+use Rattle.rtps_discovery.proofs.Lasts.{last_back, last_again, stays_from, stays_any, farewell_after}
 use Rattle.rtps_discovery.proofs.Payloads.{not_none, same_some}
 
 within_from : (lease : Option ℕ) (began now : ℕ) → is_within lease began now ≡ true → IsWithin lease began now

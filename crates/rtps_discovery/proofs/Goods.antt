@@ -1,6 +1,6 @@
 -- The learnt plan of a good plan is a good one.
-use Rattle.std.proofs.Common.{◌≡◌, ◌≢◌, ℕ, ◌+◌, ◌<◌, ◌≤◌, ◌⊎◌, Bool, true, false, ◌||◌, List, [], ◌∷◌, ◌++◌, length, map, Option, Some, None, refl, sym, ap, subst, ◌∙◌, append_assoc, append-nil, arith, inl, inr, if◌then◌else◌}
-use Rattle.std.specs.Prelude.{option_map, IfSome}
+use Rattle.std.proofs.Common.{◌≡◌, ℕ, ◌<◌, ◌≤◌, Bool, true, false, ◌||◌, List, [], ◌∷◌, ◌++◌, length, map, Option, Some, None, refl, sym, ap, subst, ◌∙◌, append_assoc, append-nil, inl, inr, if◌then◌else◌}
+use Rattle.std.specs.Prelude.{option_map}
 use Rattle.std.specs.Cmp.Lexicographic.{slice_cmp}
 use Rattle.std.specs.List.{AllByRecursion}
 use Rattle.std.specs.List.Sorted.{IsStrictlySortedBy}
@@ -17,12 +17,10 @@ use Rattle.dur_qos.specs.declared.plan.WriterLine.{WriterLine}
 use Rattle.dur_qos.specs.declared.plan.ReaderLine.{ReaderLine}
 use Rattle.dur_qos.specs.Good.{IsLimit, IsGoodTopic, EachIsNew, IsGoodWriter, IsGoodReader, GoodPlan}
 use Rattle.dur_qos.specs.Plan.{place_of, has_writer, has_reader, is_above}
-use Rattle.rtps_discovery.specs.declared.announcement.Announcement.{Announcement}
-use Rattle.rtps_discovery.specs.declared.announcement.Announcement.TheVariants.{Writer, Reader}
 use Rattle.rtps_discovery.specs.declared.announcement.Told.{Told}
 use Rattle.rtps_discovery.specs.Fits.{IsLease, Fits}
 use Rattle.rtps_discovery.specs.Hearing.{AllFit}
-use Rattle.rtps_discovery.specs.Learnt.{counted, AreAdded, Follows, IsNewWriter, IsNewReader, PassesLimit, seconds_of}
+use Rattle.rtps_discovery.specs.Learnt.{counted, Follows, IsNewWriter, IsNewReader, PassesLimit, seconds_of}
 use Rattle.rtps_discovery.specs.Sources.{participant_of}
 use Rattle.rtps_discovery.proofs.Alive.{seconds_small}
 use Rattle.rtps_discovery.proofs.NewLines.{last_fits, lease_fits}
@@ -64,7 +62,7 @@ each_rising : {L : Type 0} (guid : L → List ℕ) (has : List ℕ → List L �
 each_rising guid has s seen [] rises free = tt
 each_rising guid has s seen (y ∷ ys) rises free =
     let apart : (z : _) → Among ys z → has (guid z) (y ∷ []) ≡ false =
-        λ z h. s.more (guid z) y [] ∙ ap (λ b. if b then true else has (guid z) []) (false_from_ne_true (bytes_eq (guid z) (guid y)) (λ e. not_less (guid z) (subst (λ k. cmp k (guid z) ≡ Less) (sym ((bytes_eq-Decides (guid z) (guid y)).0 e)) (later_above guid y ys z rises h)))) ∙ s.none (guid z) in
+    λ z h. s.more (guid z) y [] ∙ ap (λ b. if b then true else has (guid z) []) (false_from_ne_true (bytes_eq (guid z) (guid y)) (λ e. not_less (guid z) (subst (λ k. cmp k (guid z) ≡ Less) (sym ((bytes_eq-Decides (guid z) (guid y)).0 e)) (later_above guid y ys z rises h)))) ∙ s.none (guid z) in
     (free y (inl refl), each_rising guid has s (seen ++ y ∷ []) ys (sorted_tail cmp (guid y) (map guid ys) rises) (λ z h. has_parts guid has s (guid z) seen (y ∷ []) ∙ or_from (has (guid z) seen) (has (guid z) (y ∷ [])) (free z (inr h)) (apart z h)))
 
 writers_searched : Searches (λ (w : WriterLine). w.guid) has_writer
@@ -111,14 +109,16 @@ writers_good plan told now p good fit f =
     let a = f.writers in
     subst (AreGoodWriters (length plan.topics)) (sym a.parts) (
       all_parts (IsGoodWriter (length plan.topics)) plan.writers a.lines good.writers (all_weaker (IsNewWriter plan (counted told) now) (IsGoodWriter (length plan.topics)) a.lines (writer_good plan told now fit) a.new),
-      each_parts (λ seen w. has_writer w.guid seen ≡ false) [] plan.writers a.lines good.writer_guids (each_rising (λ w. w.guid) has_writer writers_searched plan.writers a.lines a.rising (λ w h. (all_at (IsNewWriter plan (counted told) now) a.lines w a.new h).unnamed)))
+      each_parts (λ seen w. has_writer w.guid seen ≡ false) [] plan.writers a.lines good.writer_guids (each_rising (λ w. w.guid) has_writer writers_searched plan.writers a.lines a.rising (λ w h. (all_at (IsNewWriter plan (counted told) now) a.lines w a.new h).unnamed)),
+    )
 
 readers_good : (plan : Plan) (told : List Told) (now : ℕ) (p : Plan) → GoodPlan plan → AllFit plan told → Follows plan told now p → AreGoodReaders (length plan.topics) p.readers
 readers_good plan told now p good fit f =
     let a = f.readers in
     subst (AreGoodReaders (length plan.topics)) (sym a.parts) (
       all_parts (IsGoodReader (length plan.topics)) plan.readers a.lines good.readers (all_weaker (IsNewReader plan (counted told) now) (IsGoodReader (length plan.topics)) a.lines (reader_good plan told now fit) a.new),
-      each_parts (λ seen r. has_reader r.guid seen ≡ false) [] plan.readers a.lines good.reader_guids (each_rising (λ r. r.guid) has_reader readers_searched plan.readers a.lines a.rising (λ r h. (all_at (IsNewReader plan (counted told) now) a.lines r a.new h).unnamed)))
+      each_parts (λ seen r. has_reader r.guid seen ≡ false) [] plan.readers a.lines good.reader_guids (each_rising (λ r. r.guid) has_reader readers_searched plan.readers a.lines a.rising (λ r h. (all_at (IsNewReader plan (counted told) now) a.lines r a.new h).unnamed)),
+    )
 
 pub learnt_good : (plan : Plan) (told : List Told) (now : ℕ) (p : Plan) → GoodPlan plan → AllFit plan told → Follows plan told now p → (PassesLimit p → ⊥) → GoodPlan p
 learnt_good plan told now p good fit f within =

@@ -1,20 +1,18 @@
 -- What one announcement more changes in what is kept.
-use Rattle.std.proofs.Common.{◌≡◌, ◌≢◌, ℕ, suc, ◌+◌, ◌<◌, ◌≤◌, Bool, true, false, not, ◌&&◌, ◌||◌, List, [], ◌∷◌, ◌++◌, length, take, Option, Some, None, refl, sym, ap, subst, ◌∙◌, append_assoc, append-nil, arith, inl, inr, if◌then◌else◌}
+use Rattle.std.proofs.Common.{◌≡◌, ℕ, suc, ◌+◌, ◌<◌, ◌≤◌, Bool, true, false, not, ◌&&◌, ◌||◌, List, [], ◌∷◌, ◌++◌, length, take, Option, Some, None, refl, sym, ap, subst, ◌∙◌, append_assoc, append-nil, arith, if◌then◌else◌}
 use Rattle.std.specs.Prelude.{nat_lt, nat_le, nat_eq, cond}
-use Rattle.std.specs.List.{list_all}
 use Rattle.std.specs.Option.{option_or}
 use Rattle.std.specs.Str.{bytes_eq}
 use Rattle.std.proofs.lemmas.Bool.Decides.{nat_tests}
 use Rattle.std.proofs.lemmas.List.{length-append}
 use Rattle.std.proofs.lemmas.List.Folds.{list_all-append}
 use Rattle.std.proofs.lemmas.Slice.Eq.{bytes_eq-Decides}
-use Rattle.rtps_discovery.specs.declared.announcement.Announcement.{Announcement}
 use Rattle.rtps_discovery.specs.declared.announcement.Told.{Told}
 use Rattle.rtps_discovery.specs.declared.entry.Entry.{Entry}
 use Rattle.rtps_discovery.specs.declared.entry.Numbers.{Numbers}
 use Rattle.rtps_discovery.specs.declared.source.Source.{Source}
 use Rattle.rtps_discovery.specs.declared.source.Source.TheVariants.{Participants, Publications, Subscriptions}
-use Rattle.rtps_discovery.specs.Entries.{no_numbers, number_of, with_number, numbers_in, farewell_in, is_gone, entry_with, entry_after}
+use Rattle.rtps_discovery.specs.Entries.{no_numbers, number_of, with_number, numbers_in, farewell_in, is_gone, entry_with}
 use Rattle.rtps_discovery.specs.Hearing.{last_in, is_farewell, farewell_from, IsLastKept, IsKept, KeepsBy}
 use Rattle.rtps_discovery.specs.Learnt.{about, none_above, counts, counted_after, counted}
 use Rattle.rtps_discovery.specs.Sources.{id_of}

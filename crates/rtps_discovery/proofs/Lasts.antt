@@ -155,7 +155,7 @@ farewell_after guid before last after place at =
     let l = farewell_from guid 0 0 front in
     let upto : l ≤ place = omega (arith, farewell_upto guid 0 0 front (omega arith), len) in
     let parts : farewell_from guid 0 0 (before ++ last ∷ after) ≡ farewell_from guid place l after =
-        ap (farewell_from guid 0 0) (sym (append_assoc before (last ∷ []) after)) ∙ farewell_parts guid 0 0 front after ∙ ap (λ (k : ℕ). farewell_from guid k l after) (omega (arith, len)) in
+    ap (farewell_from guid 0 0) (sym (append_assoc before (last ∷ []) after)) ∙ farewell_parts guid 0 0 front after ∙ ap (λ (k : ℕ). farewell_from guid k l after) (omega (arith, len)) in
     elim (cases_Bool (list_any (is_farewell guid) after)) [
       | inl gone ↦ rw (parts, gone) (lt-ltb place (farewell_from guid place l after) (farewell_some guid place l after upto gone))
       | inr stay ↦ rw (parts, farewell_none guid place l after stay, stay) (le-ltb place l upto)

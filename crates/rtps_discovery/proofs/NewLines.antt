@@ -1,5 +1,5 @@
 -- The lines that the entries give are those of the learnt plan.
-use Rattle.std.proofs.Common.{◌≡◌, ℕ, ◌+◌, ◌<◌, Bool, true, false, List, [], ◌∷◌, ◌++◌, length, map, Option, Some, None, refl, sym, ap, subst, ◌∙◌, arith, inl, inr, ◌⊎◌, if◌then◌else◌}
+use Rattle.std.proofs.Common.{◌≡◌, ℕ, Bool, true, false, List, [], ◌∷◌, ◌++◌, map, Option, Some, None, refl, sym, ap, subst, ◌∙◌, inl, inr, if◌then◌else◌}
 use Rattle.std.specs.BTreeMap.{IsOrdered}
 use Rattle.std.specs.Cmp.Lexicographic.{slice_cmp}
 use Rattle.std.specs.List.{AllByRecursion, filter_map, cons_option}
@@ -12,9 +12,6 @@ use Rattle.std.proofs.lemmas.Cmp.{nat_list_cmp_total}
 use Rattle.std.proofs.lemmas.Map.Lookups.{exact_bytes}
 use Rattle.std.proofs.lemmas.Map.Views.{btree_map_get_iff}
 use Rattle.dur_qos.specs.declared.plan.Plan.{Plan}
-use Rattle.dur_qos.specs.declared.plan.WriterLine.{WriterLine}
-use Rattle.dur_qos.specs.declared.plan.ReaderLine.{ReaderLine}
-use Rattle.rtps_discovery.specs.declared.announcement.Announcement.{Announcement}
 use Rattle.rtps_discovery.specs.declared.announcement.Told.{Told}
 use Rattle.rtps_discovery.specs.declared.directory.Directory.{Directory}
 use Rattle.rtps_discovery.specs.declared.entry.Entry.{Entry}
@@ -23,7 +20,6 @@ use Rattle.rtps_discovery.specs.Hearing.{Keeps, AllFit}
 use Rattle.rtps_discovery.specs.Learnt.{counts, counted_after, counted, IsLast, IsAlive, AreAdded, Follows, IsNewWriter, IsNewReader}
 use Rattle.rtps_discovery.specs.Lines.{writer_at, reader_at}
 use Rattle.rtps_discovery.proofs.Alive.{GivenBy, kept_in, writer_from, writer_back, reader_from, reader_back}
-use Rattle.rtps_discovery.proofs.Payloads.{not_none, same_some}
 use Rattle.rtps_discovery.proofs.Unique.{Among, contains_from, among_from, all_at}
 
 abbrev cmp : List ℕ → List ℕ → Ordering
@@ -96,8 +92,8 @@ rises_at guid f e es None is sorted keyed rest = rest
 rises_at guid f e es (Some x) is sorted keyed rest =
     let parts = sorted_parts e es sorted in
     let above : (y : _) → Among (filter_map f es) y → cmp (guid x) (guid y) ≡ Less =
-        λ y h. let g = given f es y h in
-          ap (λ k. cmp k (guid y)) (keyed e x is (inl refl)) ∙ ap (cmp e.0) (keyed g.item y g.gives (inr g.within)) ∙ all_among (λ d. cmp e.0 d.0 ≡ Less) es g.item (all_unmap (λ d. d.0) (λ k. cmp e.0 k ≡ Less) es parts.0) g.within in
+    λ y h. let g = given f es y h in
+    ap (λ k. cmp k (guid y)) (keyed e x is (inl refl)) ∙ ap (cmp e.0) (keyed g.item y g.gives (inr g.within)) ∙ all_among (λ d. cmp e.0 d.0 ≡ Less) es g.item (all_unmap (λ d. d.0) (λ k. cmp e.0 k ≡ Less) es parts.0) g.within in
     sorted_more guid x (filter_map f es) (all_map guid (λ k. cmp (guid x) k ≡ Less) (filter_map f es) (all_from (λ y. cmp (guid x) (guid y) ≡ Less) (filter_map f es) above)) rest
 
 rises : {L : Type 0} (guid : L → List ℕ) (f : (List ℕ × Entry) → Option L) (es : Pairs) → IsStrictlySortedBy cmp (keys_of es) → ((d : List ℕ × Entry) (x : L) → f d ≡ Some x → Among es d → guid x ≡ d.0) → IsStrictlySortedBy cmp (map guid (filter_map f es))

@@ -1,5 +1,5 @@
 -- What a payload tells, and what a DATA announces by it.
-use Rattle.std.proofs.Common.{◌≡◌, ◌≢◌, ◌⊎◌, ℕ, ◌+◌, ◌<◌, ◌≤◌, Bool, true, false, List, [], ◌∷◌, ◌++◌, length, take, drop, if◌then◌else◌, Option, Some, None, refl, sym, ap, subst, ◌∙◌, arith, inl, inr}
+use Rattle.std.proofs.Common.{◌≡◌, ℕ, ◌<◌, ◌≤◌, Bool, true, false, List, ◌++◌, length, take, drop, if◌then◌else◌, Option, Some, None, refl, sym, ap, subst, ◌∙◌, arith, inl, inr}
 use Rattle.std.specs.Prelude.{IfSome}
 use Rattle.std.specs.Str.{bytes_eq}
 use Rattle.std.proofs.lemmas.Slice.Eq.{bytes_eq-Decides}
@@ -13,7 +13,7 @@ use Rattle.rtps_discovery.specs.declared.source.Source.{Source}
 use Rattle.rtps_discovery.specs.declared.source.Source.TheVariants.{Participants, Publications, Subscriptions}
 use Rattle.rtps_discovery.specs.Sources.{id_of, source_of}
 use Rattle.rtps_discovery.specs.Lists.{ListTells, PayloadTells, representation, order_of}
-use Rattle.rtps_discovery.specs.Announcing.{guid_of, subject, present, Leaves, Says, Announces}
+use Rattle.rtps_discovery.specs.Announcing.{subject, present, Leaves, Says, Announces}
 
 pub not_none : {A : Type 0} (o : Option A) (x : A) → o ≡ None → o ≡ Some x → ⊥
 not_none o x e f = cc

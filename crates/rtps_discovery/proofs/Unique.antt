@@ -1,13 +1,12 @@
 -- What is announced, and what is learnt, is determined.
-use Rattle.std.proofs.Common.{◌≡◌, ◌≢◌, ℕ, ◌+◌, ◌<◌, Bool, true, false, List, [], ◌∷◌, ◌++◌, length, map, take, drop, Option, Some, None, refl, sym, ap, subst, ◌∙◌, arith, inl, inr, ◌⊎◌}
+use Rattle.std.proofs.Common.{◌≡◌, ℕ, Bool, List, [], ◌∷◌, ◌++◌, map, take, Option, Some, None, refl, sym, ap, subst, ◌∙◌, arith, inl, inr, ◌⊎◌}
 use Rattle.std.specs.Cmp.Lexicographic.{slice_cmp}
 use Rattle.std.specs.List.{AllByRecursion, Contains}
 use Rattle.std.specs.List.Sorted.{IsStrictlySortedBy}
 use Rattle.std.specs.Ordering.{nat_cmp}
 use Rattle.std.specs.declared.cmp.Ordering.{Ordering}
-use Rattle.std.specs.declared.cmp.Ordering.TheVariants.{Less, Equal, Greater}
+use Rattle.std.specs.declared.cmp.Ordering.TheVariants.{Less, Equal}
 use Rattle.std.proofs.lemmas.Cmp.{nat_list_cmp_total, tied_itself}
-use Rattle.std.proofs.lemmas.List.{take_at, drop_at}
 use Rattle.std.proofs.lemmas.List.Elements.{Contains-append_left, Contains-append_right, Contains-append_cases, Contains-push, Contains-push_cases}
 use Rattle.std.proofs.lemmas.Map.Keys.{sorted_head, sorted_tail}
 use Rattle.dur_base.specs.declared.fact.Fact.{Fact}
@@ -16,16 +15,16 @@ use Rattle.dur_base.specs.declared.sample.Raw.{Raw}
 use Rattle.dur_qos.specs.declared.plan.Plan.{Plan}
 use Rattle.dur_qos.specs.declared.plan.Topic.{Topic}
 use Rattle.rtps_discovery.specs.declared.announcement.Announcement.{Announcement}
-use Rattle.rtps_discovery.specs.declared.announcement.Announcement.TheVariants.{Participant, Writer, Reader, Gone}
+use Rattle.rtps_discovery.specs.declared.announcement.Announcement.TheVariants.{Gone}
 use Rattle.rtps_discovery.specs.declared.announcement.Told.{Told}
 use Rattle.rtps_discovery.specs.declared.list.Listed.{Listed}
 use Rattle.rtps_discovery.specs.declared.source.Source.{Source}
 use Rattle.rtps_discovery.specs.Announcing.{subject, present, Leaves, Says, Announces}
 use Rattle.rtps_discovery.specs.Learnt.{HeardFact, IsTold, AreTold, AreAdded, Follows, IsLearnt, counted, IsNewWriter, IsNewReader}
-use Rattle.rtps_discovery.specs.Lists.{ListTells, PayloadTells, order_of, representation}
-use Rattle.rtps_discovery.specs.Sources.{id_of, source_of}
+use Rattle.rtps_discovery.specs.Lists.{ListTells, PayloadTells, order_of}
+use Rattle.rtps_discovery.specs.Sources.{source_of}
 use Rattle.rtps_discovery.proofs.Loop.{tells_once}
-use Rattle.rtps_discovery.proofs.Payloads.{not_none, same_some, source_again, order_again, front_is, list_is, said_of}
+use Rattle.rtps_discovery.proofs.Payloads.{same_some, source_again, order_again, front_is, list_is, said_of}
 
 -- ---- one announcement
 

@@ -1,7 +1,6 @@
 -- What a DATA of discovery announces (DDSI-RTPS 8.5.3, 8.5.4).
 use Rattle.std.specs.Prelude.{◌≡◌, ◌≢◌, ◌⊎◌, ℕ, List, take, drop, Option, Some, None, if◌then◌else◌}
 use Rattle.std.specs.Str.{bytes_eq}
-use Rattle.dur_base.specs.declared.kinds.Durability.{Durability}
 use Rattle.dur_base.specs.declared.sample.Raw.{Raw}
 use Rattle.dur_qos.specs.declared.plan.Plan.{Plan}
 use Rattle.dur_qos.specs.declared.plan.Topic.{Topic}

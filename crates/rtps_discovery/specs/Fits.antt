@@ -1,6 +1,6 @@
 -- What holds of everything that is announced: a lease that ends is below 7fffffff seconds, and a topic is one of the
 -- plan.
-use Rattle.std.specs.Prelude.{ℕ, ◌*◌, ◌^◌, ◌<◌, List, length, Option, Some, None, IfSome}
+use Rattle.std.specs.Prelude.{ℕ, ◌*◌, ◌^◌, ◌<◌, List, length, Option, IfSome}
 use Rattle.dur_qos.specs.declared.plan.Topic.{Topic as TopicLine}
 use Rattle.rtps_discovery.specs.declared.announcement.Announcement.{Announcement}
 use Rattle.rtps_discovery.specs.declared.announcement.Announcement.TheVariants as says

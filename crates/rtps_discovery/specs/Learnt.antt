@@ -1,6 +1,6 @@
 -- The plan that facts of discovery teach.
 use Rattle.std.specs.Prelude.{◌≡◌, ◌≢◌, ◌⊎◌, ℕ, ◌+◌, ◌-◌, ◌/◌, ◌^◌, ◌≤◌, ◌<◌, ◌&&◌, ◌||◌, Bool, not, false, List, [], ◌∷◌, ◌++◌, length, map, max, Option, Some, None, option_map, nat_le, slice_get, if◌then◌else◌}
-use Rattle.std.specs.List.{All, AllByRecursion, Contains, list_all}
+use Rattle.std.specs.List.{AllByRecursion, Contains, list_all}
 use Rattle.std.specs.List.Sorted.{IsStrictlySortedBy}
 use Rattle.std.specs.Ordering.{nat_cmp}
 use Rattle.std.specs.Cmp.Lexicographic.{slice_cmp}

@@ -17,3 +17,6 @@ pub use announcement::Announcement;
 pub use directory::Directory;
 pub use fault::LearnFault;
 pub use reading::read_announcement;
+
+#[cfg(test)]
+mod tests;

@@ -1,6 +1,4 @@
 use Rattle.std.proofs.Common.{arith, ap, Some, rules}
-use Rattle.rtps_discovery.specs.declared.list.Listed.{Listed}
-use Rattle.rtps_discovery.specs.Lists.{ListTells}
 use Rattle.rtps_discovery.proofs.Loop.{begins_so, goes_on, leaves_less, ends_so, breaks_so, tells_once}
 use Rattle.rtps_discovery.proofs.list.read_list.Goals as goal
 

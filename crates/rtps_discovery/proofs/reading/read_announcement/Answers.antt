@@ -1,4 +1,4 @@
-use Rattle.std.proofs.Common.{◌≡◌, ◌∙◌, sym, ap, Some, take, rules}
+use Rattle.std.proofs.Common.{◌≡◌, ◌∙◌, ap, Some, take, rules}
 use Rattle.rtps_discovery.specs.Announcing.{guid_of, Says}
 use Rattle.rtps_discovery.specs.declared.announcement.Announcement.{Announcement}
 use Rattle.rtps_discovery.proofs.Payloads.{said_of, not_none, same_some}

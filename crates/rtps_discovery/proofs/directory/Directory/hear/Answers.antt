@@ -1,8 +1,7 @@
-use Rattle.std.proofs.Common.{◌≡◌, sym, ◌∙◌, List, ◌++◌, ◌∷◌, [], rules}
+use Rattle.std.proofs.Common.{◌++◌, ◌∷◌, []}
 use Rattle.std.proofs.lemmas.Result.{on_ok_weaker, on_err_weaker}
 use Rattle.rtps_discovery.specs.Fits.{Fits}
 use Rattle.rtps_discovery.specs.Hearing.{Heard}
-use Rattle.rtps_discovery.specs.Learnt.{HeardFact}
 use Rattle.rtps_discovery.proofs.Noting.{told_own, told_more, told_none, all_more}
 use Rattle.rtps_discovery.proofs.Payloads.{not_none}
 use Rattle.rtps_discovery.proofs.directory.Directory.hear.Goals as goal

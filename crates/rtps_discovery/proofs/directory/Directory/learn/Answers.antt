@@ -1,4 +1,4 @@
-use Rattle.std.proofs.Common.{◌≡◌, ap, sym, subst, refl, rules}
+use Rattle.std.proofs.Common.{ap, subst, refl, rules}
 use Rattle.dur_qos.specs.declared.plan.Plan.{Plan}
 use Rattle.rtps_discovery.specs.Hearing.{Heard}
 use Rattle.rtps_discovery.specs.Learnt.{IsLearnt, PassesLimit}
