@@ -17,7 +17,7 @@ use Rattle.rtps_discovery.specs.declared.directory.Directory.{Directory}
 use Rattle.rtps_discovery.specs.declared.entry.Entry.{Entry}
 use Rattle.rtps_discovery.specs.Fits.{IsLease, Fits}
 use Rattle.rtps_discovery.specs.Hearing.{Keeps, AllFit}
-use Rattle.rtps_discovery.specs.Learnt.{counts, counted_after, counted, IsLast, IsAlive, AreAdded, Follows, IsNewWriter, IsNewReader}
+use Rattle.rtps_discovery.specs.Learnt.{counts, counted_after, counted, IsLast, IsAlive, AreAdded, Follows, IsNewWriter, IsNewReader, HeardFact, AreTold, IsLearnt}
 use Rattle.rtps_discovery.specs.Lines.{writer_at, reader_at}
 use Rattle.rtps_discovery.proofs.Alive.{GivenBy, kept_in, writer_from, writer_back, reader_from, reader_back}
 use Rattle.rtps_discovery.proofs.Unique.{Among, contains_from, among_from, all_at}
@@ -149,3 +149,6 @@ follows plan d told now p keeps fit ordered prefix topics writers readers =
       writers = subst (AreAdded (IsNewWriter plan (counted told) now) (λ w. w.guid) plan.writers) (sym writers) (added d (IsNewWriter plan (counted told) now) (λ w. w.guid) (writer_at plan d now) plan.writers ordered (λ g e x is gives. writer_from plan d told now g e x keeps fine is gives) (λ x new. writer_back plan d told now x keeps fine new));
       readers = subst (AreAdded (IsNewReader plan (counted told) now) (λ r. r.guid) plan.readers) (sym readers) (added d (IsNewReader plan (counted told) now) (λ r. r.guid) (reader_at plan d now) plan.readers ordered (λ g e x is gives. reader_from plan d told now g e x keeps is gives) (λ x new. reader_back plan d told now x keeps new));
     }
+
+pub learnt_from : (plan : Plan) (facts : List HeardFact) (told : List Told) (now : ℕ) (p : Plan) → AreTold plan facts told → Follows plan told now p → IsLearnt plan facts now p
+learnt_from plan facts told now p are_told follows = record { told = told; are_told = are_told; follows = follows }

@@ -7,13 +7,14 @@ use Rattle.std.specs.Option.{option_or}
 use Rattle.std.specs.Ordering.{nat_cmp}
 use Rattle.std.specs.Str.{bytes_eq}
 use Rattle.dur_qos.specs.declared.plan.Plan.{Plan}
+use Rattle.dur_qos.specs.Good.{GoodPlan}
 use Rattle.rtps_discovery.specs.declared.announcement.Told.{Told}
 use Rattle.rtps_discovery.specs.declared.directory.Directory.{Directory}
 use Rattle.rtps_discovery.specs.declared.entry.Entry.{Entry}
 use Rattle.rtps_discovery.specs.declared.source.Source.{Source}
 use Rattle.rtps_discovery.specs.Entries.{number_of, numbers_in, farewell_in, is_gone}
 use Rattle.rtps_discovery.specs.Fits.{Fits}
-use Rattle.rtps_discovery.specs.Learnt.{HeardFact, AreTold, about, none_above, counted}
+use Rattle.rtps_discovery.specs.Learnt.{HeardFact, AreTold, about, none_above, counted, IsLearnt, PassesLimit}
 use Rattle.rtps_discovery.specs.Sources.{id_of}
 
 -- the last one of that GUID, and those after it
@@ -58,3 +59,25 @@ AllFit plan told = AllByRecursion (λ t. Fits plan.topics t.what) told
 -- The directory stands for these facts, which it was handed in this order, under this plan.
 unfoldable pub Heard : Plan → Directory → List HeardFact → Type 0
 Heard plan d facts = (told : List Told) × AreTold plan facts told × AllFit plan told × Keeps d told
+
+-- it stands for one fact more
+abbrev pub StandsForMore : Plan → Directory → Directory → HeardFact → Type 0
+StandsForMore plan old new h = (facts : List HeardFact) → Heard plan old facts → Heard plan new (facts ++ h ∷ [])
+
+-- it stands for all that it stood for
+abbrev pub StandsForSame : Directory → Directory → Type 0
+StandsForSame old new = (plan : Plan) (facts : List HeardFact) → Heard plan old facts → Heard plan new facts
+
+-- a plan that is learnt from a directory
+pub record IsLearntBy (plan : Plan) (d : Directory) (now : ℕ) (learnt : Plan) : Type 0 where
+  -- it is the learnt plan of all facts that were heard, and no other plan is
+  pub is : (facts : List HeardFact) → Heard plan d facts → IsLearnt plan facts now learnt
+  pub only : (facts : List HeardFact) (q : Plan) → Heard plan d facts → IsLearnt plan facts now q → learnt ≡ q
+  -- of a good plan it is a good one
+  pub good : (facts : List HeardFact) → GoodPlan plan → Heard plan d facts → GoodPlan learnt
+  pub within : PassesLimit learnt → ⊥
+
+-- the plan that would be learnt passes a limit
+abbrev pub WouldPass : Plan → Directory → ℕ → Type 0
+WouldPass plan d now =
+    (facts : List HeardFact) (q : Plan) → Heard plan d facts → IsLearnt plan facts now q → PassesLimit q

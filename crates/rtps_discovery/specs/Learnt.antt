@@ -25,6 +25,9 @@ pub record HeardFact : Type 0 where
   pub moment : ℕ
   pub fact : Fact
 
+abbrev pub heard : ℕ → Fact → HeardFact
+heard moment fact = record { moment = moment; fact = fact }
+
 -- whom it is about
 abbrev pub about : Told → List ℕ
 about t = guid_of t.what

@@ -4,8 +4,8 @@ ghost use Rattle.std.specs.Prelude.{◌≡◌, ◌++◌, ◌∷◌, [], List, On
 ghost use Rattle.dur_qos.specs.declared.plan.Plan.{Plan};
 ghost use Rattle.rtps_discovery.specs.declared.announcement.Told.{Told};
 ghost use Rattle.rtps_discovery.specs.Announcing.{Announces};
-ghost use Rattle.rtps_discovery.specs.Learnt.{HeardFact};
-ghost use Rattle.rtps_discovery.specs.Hearing.{Heard, Keeps};
+ghost use Rattle.rtps_discovery.specs.Learnt.{heard};
+ghost use Rattle.rtps_discovery.specs.Hearing.{Heard, Keeps, StandsForMore, StandsForSame};
 ghost use Rattle.rtps_discovery.specs.Told.{IsOwn};
 
 use crate::announcement::Told;
@@ -69,8 +69,8 @@ impl Directory {
     /// directory is as it was; the announcement 2^64 that counts is refused as well.
     pub fn hear(&mut self, plan: &Plan, moment: Ticks, fact: &Fact) -> Result<(), OutOfMemory>
         // From then on it stands for this fact too.
-        ensures ok { OnOk result ((facts : List HeardFact) → Heard plan.now self.old facts → Heard plan.now self.new (facts ++ record { moment = moment; fact = fact.now } ∷ [])) }
-        ensures err { OnErr result ((facts : List HeardFact) → Heard plan.now self.old facts → Heard plan.now self.new facts) }
+        ensures ok { OnOk result (StandsForMore plan.now self.old self.new (heard moment fact.now)) }
+        ensures err { OnErr result (StandsForSame self.old self.new) }
     {
         match told(plan, moment, fact) {
             Some(told) => self.note(&told),

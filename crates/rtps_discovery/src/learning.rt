@@ -1,10 +1,7 @@
 //! The plan that a directory teaches.
 
-ghost use Rattle.std.specs.Prelude.{◌≡◌, ◌<◌, ◌⊎◌, ◌↔◌, IsTrue, length, List as Sequence, IfOk, IfErr};
-ghost use Rattle.dur_qos.specs.declared.plan.Plan.{Plan};
-ghost use Rattle.dur_qos.specs.Good.{GoodPlan};
-ghost use Rattle.rtps_discovery.specs.Hearing.{Heard};
-ghost use Rattle.rtps_discovery.specs.Learnt.{HeardFact, IsLearnt, PassesLimit};
+ghost use Rattle.std.specs.Prelude.{◌≡◌, ◌<◌, ◌⊎◌, ◌↔◌, IsTrue, length, IfOk, IfErr};
+ghost use Rattle.rtps_discovery.specs.Hearing.{IsLearntBy, WouldPass};
 
 use crate::directory::Directory;
 use crate::fault::LearnFault;
@@ -31,13 +28,8 @@ impl Directory {
     /// offers at least the kind of its topic, with the lease of its participant. `TooMany` comes exactly where that
     /// plan passes a limit of a plan.
     pub fn learn(&self, alloc: Global, plan: &Plan, moment: Ticks) -> Result<Plan, LearnFault>
-        // It is the learnt plan of all facts that were heard, and no other plan is.
-        ensures ok { IfOk result (λ p. (facts : Sequence HeardFact) → Heard plan.now self.now facts → IsLearnt plan.now facts moment p) }
-        ensures only { IfOk result (λ p. (facts : Sequence HeardFact) (q : Plan) → Heard plan.now self.now facts → IsLearnt plan.now facts moment q → p ≡ q) }
-        // The learnt plan of a good plan is a good one.
-        ensures good { IfOk result (λ p. (facts : Sequence HeardFact) → GoodPlan plan.now → Heard plan.now self.now facts → GoodPlan p) }
-        ensures within { IfOk result (λ p. PassesLimit p → ⊥) }
-        ensures too_many { IfErr result (λ e. e ≡ LearnFault.TooMany → (facts : Sequence HeardFact) (q : Plan) → Heard plan.now self.now facts → IsLearnt plan.now facts moment q → PassesLimit q) }
+        ensures ok { IfOk result (IsLearntBy plan.now self.now moment) }
+        ensures too_many { IfErr result (λ e. e ≡ LearnFault.TooMany → WouldPass plan.now self.now moment) }
     {
         let writers = self.writers(alloc, plan, moment)?;
         let readers = self.readers(alloc, plan, moment)?;

@@ -19,4 +19,4 @@ returns-in-None-clause-ok c facts heard =
 pub returns-in-Some-clause-err : goal.returns-in-Some-clause-err
 unfolding Heard
 returns-in-Some-clause-err c =
-    on_err_weaker c.note.result (λ keeps facts heard. (heard.0, heard.1, heard.2, keeps heard.0 heard.3)) c.note.ensures.err
+    on_err_weaker c.note.result (λ keeps plan facts heard. (heard.0, heard.1, heard.2, keeps heard.0 heard.3)) c.note.ensures.err
