@@ -152,11 +152,11 @@ pub loses : (m by : ℕ) (regs : List Registered) → ByPlace regs → Ends (Gon
 loses m by regs up = record { other = λ k. refl; left = λ k. places-leave_all by regs k; order = order-without _ regs up; nothing = refl; nobody = λ k. refl }
 
 -- a loop over the cells
-settle-at : (f : Cell → Cell) (xs : List Cell) (i : ℕ) (c d : Cell) → i < length xs → c ≡ get_or (map f (take i xs) ++ drop i xs) i d → slice_set (map f (take i xs) ++ drop i xs) i (f c) ≡ map f (take (suc i) xs) ++ drop (suc i) xs
+settle-at : {X : Type 0} (f : X → X) (xs : List X) (i : ℕ) (c d : X) → i < length xs → c ≡ get_or (map f (take i xs) ++ drop i xs) i d → slice_set (map f (take i xs) ++ drop i xs) i (f c) ≡ map f (take (suc i) xs) ++ drop (suc i) xs
 settle-at f [] i c d lt is = absurd (omega arith)
 settle-at f (x ∷ xs) zero c d lt is = ap (λ y. f y ∷ xs) is
 settle-at f (x ∷ xs) (suc i) c d lt is = ap (λ l. f x ∷ l) (settle-at f xs i c d (omega arith) is)
 
-pub settle-step : (f : Cell → Cell) (xs now : List Cell) (i : ℕ) (c d : Cell) → i < length xs → now ≡ map f (take i xs) ++ drop i xs → c ≡ get_or now i d → slice_set now i (f c) ≡ map f (take (i + 1) xs) ++ drop (i + 1) xs
+pub settle-step : {X : Type 0} (f : X → X) (xs now : List X) (i : ℕ) (c d : X) → i < length xs → now ≡ map f (take i xs) ++ drop i xs → c ≡ get_or now i d → slice_set now i (f c) ≡ map f (take (i + 1) xs) ++ drop (i + 1) xs
 settle-step f xs now i c d lt is here =
     ap (λ l. slice_set l i (f c)) is ∙ settle-at f xs i c d lt (here ∙ ap (λ l. get_or l i d) is) ∙ ap (λ n. map f (take n xs) ++ drop n xs) (sym (add-one i))

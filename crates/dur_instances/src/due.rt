@@ -1,10 +1,12 @@
 //! When something that is kept falls due.
 
 ghost use Rattle.std.specs.Prelude.{◌≡◌, min, nat_lt};
-ghost use Rattle.dur_instances.specs.Due.{purged_from, expired_from, due_cells, due_changes, due_of, due_with, due_by};
+ghost use Rattle.dur_instances.specs.Places.{kept_in};
+ghost use Rattle.dur_instances.specs.Due.{due_at, purged_from, expired_from, due_cells, due_changes, due_of, due_with, due_by};
 
 use crate::cells::Cell;
 use crate::changes::Change;
+use crate::links::Place;
 use dur_base::{Sample, Ticks};
 
 /// Whether a moment comes before another.
@@ -50,15 +52,22 @@ fn due_cells(longest: u64, cells: &[Cell]) -> u64
     due
 }
 
-fn due_changes(changes: &[Change]) -> u64
-    ensures { result ≡ due_changes changes.now }
+// The first moment at which the change that is kept there is expired, or the last moment.
+fn due_at(change: &Option<Change>) -> u64
+    ensures { result ≡ due_at change.now }
+{
+    match change {
+        Some(change) => expired_from(change.sample.lifespan, change.sample.stamp),
+        None => u64::MAX,
+    }
+}
+
+fn due_changes(places: &[Place]) -> u64
+    ensures { result ≡ due_changes (kept_in places.now) }
 {
     let mut due = u64::MAX;
-    for change in changes {
-        due = earlier(
-            due,
-            expired_from(change.sample.lifespan, change.sample.stamp),
-        );
+    for place in places {
+        due = earlier(due, due_at(&place.change));
     }
     due
 }
@@ -78,8 +87,8 @@ pub fn due_by(sample: &Sample, due: Ticks) -> Ticks
 }
 
 /// The least moment at which an instance is purged or a change expires.
-pub fn due_of(longest: u64, cells: &[Cell], changes: &[Change]) -> Ticks
-    ensures { result ≡ due_of longest cells.now changes.now }
+pub fn due_of(longest: u64, cells: &[Cell], places: &[Place]) -> Ticks
+    ensures { result ≡ due_of longest cells.now (kept_in places.now) }
 {
-    Ticks(earlier(due_cells(longest, cells), due_changes(changes)))
+    Ticks(earlier(due_cells(longest, cells), due_changes(places)))
 }

@@ -20,13 +20,13 @@ ghost use Rattle.dur_instances.specs.Kept.{NoneIsOver};
 ghost use Rattle.dur_instances.specs.Would.{TakeEffect};
 
 use crate::cells::{self, Cell, Sorted, count_after, count_of, put, settle};
-use crate::changes::{self, Change};
+use crate::changes::Change;
 use crate::due::{due_by, due_of, due_with, is_before};
 use crate::from_view::{cells_of, changes_of, registered_of};
 use crate::lines::{kept_over, lines_over};
 use crate::listing::entitled_over;
+use crate::order::Changes;
 use crate::registered::{Registered, enroll, is_nobody, leave, leave_all};
-use crate::within::push_within;
 use crate::would::would_over;
 use dur_base::{Act, Guid, Key, List, Number, OutOfMemory, Sample, Ticks};
 use dur_qos::Topic;
@@ -42,7 +42,7 @@ pub struct Instances {
     due: Ticks,
     cells: Vec<Cell>,
     registered: Vec<Registered>,
-    changes: Vec<Change>,
+    changes: Changes,
 }
 
 impl Model for Instances {
@@ -55,7 +55,7 @@ impl Model for Instances {
 
     ghost coded = { trimmed_code };
 
-    ghost view = { λ s. record { settings = s.topic; last = s.last; rows = rows_of s.cells.items s.registered.items; kept = lates_of s.cells.items s.changes.items; room = min (vec_capacity s.cells - vec_len s.cells) (min (vec_capacity s.registered - vec_len s.registered) (vec_capacity s.changes - vec_len s.changes)) } };
+    ghost view = { λ s. record { settings = s.topic; last = s.last; rows = rows_of s.cells.items s.registered.items; kept = lates_of s.cells.items s.changes.items; room = min (vec_capacity s.cells - vec_len s.cells) (min (vec_capacity s.registered - vec_len s.registered) s.changes.room) } };
 
     ghost invariant = { λ s. IsLaid s.topic s.cells.items s.registered.items s.changes.items × (s.due ≤ due_of (s.topic.delay * 2 ^ 32) s.cells.items s.changes.items) };
 }
@@ -71,7 +71,7 @@ impl Instances {
             due: Ticks(u64::MAX),
             cells: Vec::new(alloc),
             registered: Vec::new(alloc),
-            changes: Vec::new(alloc),
+            changes: Changes::new(alloc),
         }
     }
 
@@ -95,7 +95,7 @@ impl Instances {
         Ok(Instances {
             topic: topic.copy(),
             last: view.last,
-            due: due_of(longest, &cells, &changes),
+            due: due_of(longest, &cells, changes.places()),
             cells,
             registered,
             changes,
@@ -115,10 +115,7 @@ impl Instances {
             Ok(()) => {}
             Err(_) => return Err(OutOfMemory),
         }
-        match self.changes.reserve(more) {
-            Ok(()) => Ok(()),
-            Err(_) => Err(OutOfMemory),
-        }
+        self.changes.reserve(more)
     }
 
     /// Forgets what is expired or purged at the moment: nothing, where the moment is before the first at which anything is.
@@ -136,9 +133,10 @@ impl Instances {
             return;
         }
         let longest = self.topic.delay as u64 * 4_294_967_296;
-        changes::sweep(&mut self.changes, &Sorted::of(&self.cells), longest, moment);
+        self.changes
+            .sweep(&Sorted::of(&self.cells), longest, moment);
         cells::sweep(&mut self.cells, longest, moment);
-        self.due = due_of(longest, &self.cells, &self.changes);
+        self.due = due_of(longest, &self.cells, self.changes.places());
         self.last = moment;
     }
 
@@ -185,8 +183,7 @@ impl Instances {
             arrived: Some(arrived),
             sample,
         };
-        push_within(&mut self.changes, change);
-        changes::displace(&mut self.changes, &Sorted::of(&self.cells), depth);
+        self.changes.add(change, depth, count);
         self.due = due;
     }
 
@@ -228,7 +225,7 @@ impl Instances {
         would_over(
             &self.topic,
             &Sorted::of(&self.cells),
-            &self.changes,
+            self.changes.places(),
             moment,
             changes,
         )
@@ -240,13 +237,8 @@ impl Instances {
         ensures { IfOk result (λ s. (p : Past) → Stands self.now p → s.changes ≡ snap p moment) }
     {
         let longest = self.topic.delay as u64 * 4_294_967_296;
-        let changes = entitled_over(
-            alloc,
-            &self.changes,
-            &Sorted::of(&self.cells),
-            longest,
-            moment,
-        )?;
+        let kept = self.changes.list(alloc)?;
+        let changes = entitled_over(alloc, &kept, &Sorted::of(&self.cells), longest, moment)?;
         Ok(Snapshot { changes })
     }
 
@@ -262,13 +254,14 @@ impl Instances {
     {
         let longest = self.topic.delay as u64 * 4_294_967_296;
         let depth = self.topic.depth;
+        let kept = self.changes.list(alloc)?;
         let lines = lines_over(
             alloc,
             at,
             depth,
             &Sorted::of(&self.cells),
             &self.registered,
-            &self.changes,
+            &kept,
             longest,
             moment,
         )?;
@@ -282,11 +275,12 @@ impl Instances {
     {
         let longest = self.topic.delay as u64 * 4_294_967_296;
         let depth = self.topic.depth;
+        let changes = self.changes.list(alloc)?;
         let kept = kept_over(
             alloc,
             depth,
             &Sorted::of(&self.cells),
-            &self.changes,
+            &changes,
             longest,
             moment,
         )?;

@@ -6,10 +6,12 @@ ghost use Rattle.dur_view.specs.Words.{is_change};
 ghost use Rattle.dur_view.specs.Fates.{is_long};
 ghost use Rattle.dur_view.specs.Refused.{is_over};
 ghost use Rattle.dur_instances.specs.Layout.{late_of, cells_there};
-ghost use Rattle.dur_instances.specs.Would.{later_in, is_left, fresh_of, left_after, is_asked, count_asked, is_there_in, new_keys, any_there, passed_after};
+ghost use Rattle.dur_instances.specs.Places.{kept_in};
+ghost use Rattle.dur_instances.specs.Would.{is_left_at, later_in, is_left, fresh_of, left_after, is_asked, count_asked, is_there_in, new_keys, any_there, passed_after};
 
 use crate::cells::{Cell, Sorted, count_of, find, raised};
 use crate::changes::{Change, is_gone, is_long, is_over as is_expired};
+use crate::links::Place;
 use dur_base::{Act, Key, Sample, Ticks};
 use dur_qos::Topic;
 use dur_view::Limit;
@@ -78,21 +80,40 @@ fn is_left(
         && !reaches(depth, later as u128 + later_in(samples, key) as u128)
 }
 
+// Whether a change of the instance, or of all, is kept there and left.
+fn is_left_at(
+    cells: &Sorted,
+    kept: &Option<Change>,
+    depth: Option<u32>,
+    longest: u64,
+    now: Ticks,
+    samples: &[Sample],
+    of: &Option<Key>,
+) -> bool
+    ensures { result ≡ is_left_at cells.now depth longest now samples.now of.now kept.now }
+{
+    match kept {
+        Some(change) => is_asked(of, change.sample.key)
+            && is_left(cells, depth, longest, now, samples, change),
+        None => false,
+    }
+}
+
 // How many kept changes of the instance, or of all, are left.
 fn kept_left(
     cells: &Sorted,
-    changes: &[Change],
+    places: &[Place],
     depth: Option<u32>,
     longest: u64,
     now: Ticks,
     samples: &[Sample],
     of: &Option<Key>,
 ) -> usize
-    ensures { result ≡ count_by (λ c. is_asked of.now c.sample.key) (filter (is_left cells.now depth longest now samples.now) changes.now) }
+    ensures { result ≡ count_by (λ c. is_asked of.now c.sample.key) (filter (is_left cells.now depth longest now samples.now) (kept_in places.now)) }
 {
     let mut count = 0;
-    for change in changes {
-        if is_asked(of, change.sample.key) && is_left(cells, depth, longest, now, samples, change) {
+    for place in places {
+        if is_left_at(cells, &place.change, depth, longest, now, samples, of) {
             count += 1;
         }
     }
@@ -124,16 +145,16 @@ fn fresh_left(depth: Option<u32>, now: Ticks, samples: &[Sample], of: &Option<Ke
 // How many changes of the instance, or of all, are left when the samples took effect at the moment.
 fn count_left(
     cells: &Sorted,
-    changes: &[Change],
+    places: &[Place],
     depth: Option<u32>,
     longest: u64,
     now: Ticks,
     samples: &[Sample],
     of: &Option<Key>,
 ) -> u128
-    ensures { result ≡ count_asked of.now (left_after cells.now changes.now depth longest now samples.now) }
+    ensures { result ≡ count_asked of.now (left_after cells.now (kept_in places.now) depth longest now samples.now) }
 {
-    let kept = kept_left(cells, changes, depth, longest, now, samples, of);
+    let kept = kept_left(cells, places, depth, longest, now, samples, of);
     kept as u128 + fresh_left(depth, now, samples, of) as u128
 }
 
@@ -178,27 +199,19 @@ fn count_new(cells: &Sorted, longest: u64, now: Ticks, samples: &[Sample]) -> us
 fn has_more(
     limit: Option<u32>,
     cells: &Sorted,
-    changes: &[Change],
+    places: &[Place],
     depth: Option<u32>,
     longest: u64,
     now: Ticks,
     samples: &[Sample],
     cell: &Cell,
 ) -> bool
-    ensures { result ≡ (not (is_long cell.now.quiet longest now) && is_over limit (count_asked (Some cell.now.key) (left_after cells.now changes.now depth longest now samples.now))) }
+    ensures { result ≡ (not (is_long cell.now.quiet longest now) && is_over limit (count_asked (Some cell.now.key) (left_after cells.now (kept_in places.now) depth longest now samples.now))) }
 {
     !is_long(cell.quiet, longest, now)
         && is_over(
             limit,
-            count_left(
-                cells,
-                changes,
-                depth,
-                longest,
-                now,
-                samples,
-                &Some(cell.key),
-            ),
+            count_left(cells, places, depth, longest, now, samples, &Some(cell.key)),
         )
 }
 
@@ -206,16 +219,16 @@ fn has_more(
 fn any_kept_over(
     limit: Option<u32>,
     cells: &Sorted,
-    changes: &[Change],
+    places: &[Place],
     depth: Option<u32>,
     longest: u64,
     now: Ticks,
     samples: &[Sample],
 ) -> bool
-    ensures { result ≡ list_any (λ c. not (is_long c.quiet longest now) && is_over limit (count_asked (Some c.key) (left_after cells.now changes.now depth longest now samples.now))) cells.now }
+    ensures { result ≡ list_any (λ c. not (is_long c.quiet longest now) && is_over limit (count_asked (Some c.key) (left_after cells.now (kept_in places.now) depth longest now samples.now))) cells.now }
 {
     for cell in cells.as_slice() {
-        if has_more(limit, cells, changes, depth, longest, now, samples, cell) {
+        if has_more(limit, cells, places, depth, longest, now, samples, cell) {
             return true;
         }
     }
@@ -226,21 +239,21 @@ fn any_kept_over(
 fn brings_more(
     limit: Option<u32>,
     cells: &Sorted,
-    changes: &[Change],
+    places: &[Place],
     depth: Option<u32>,
     longest: u64,
     now: Ticks,
     samples: &[Sample],
     sample: &Sample,
 ) -> bool
-    ensures { result ≡ (is_change sample.now.act && is_over limit (count_asked (Some sample.now.key) (left_after cells.now changes.now depth longest now samples.now))) }
+    ensures { result ≡ (is_change sample.now.act && is_over limit (count_asked (Some sample.now.key) (left_after cells.now (kept_in places.now) depth longest now samples.now))) }
 {
     is_change(sample.act)
         && is_over(
             limit,
             count_left(
                 cells,
-                changes,
+                places,
                 depth,
                 longest,
                 now,
@@ -254,16 +267,16 @@ fn brings_more(
 fn any_new_over(
     limit: Option<u32>,
     cells: &Sorted,
-    changes: &[Change],
+    places: &[Place],
     depth: Option<u32>,
     longest: u64,
     now: Ticks,
     samples: &[Sample],
 ) -> bool
-    ensures { result ≡ list_any (λ s. is_change s.act && is_over limit (count_asked (Some s.key) (left_after cells.now changes.now depth longest now samples.now))) samples.now }
+    ensures { result ≡ list_any (λ s. is_change s.act && is_over limit (count_asked (Some s.key) (left_after cells.now (kept_in places.now) depth longest now samples.now))) samples.now }
 {
     for sample in samples {
-        if brings_more(limit, cells, changes, depth, longest, now, samples, sample) {
+        if brings_more(limit, cells, places, depth, longest, now, samples, sample) {
             return true;
         }
     }
@@ -296,18 +309,18 @@ fn are_instances_over(
 fn is_any_over(
     limit: Option<u32>,
     cells: &Sorted,
-    changes: &[Change],
+    places: &[Place],
     depth: Option<u32>,
     longest: u64,
     now: Ticks,
     samples: &[Sample],
 ) -> bool
-    ensures { result ≡ any_there cells.now longest now samples.now (λ k. is_over limit (count_asked (Some k) (left_after cells.now changes.now depth longest now samples.now))) }
+    ensures { result ≡ any_there cells.now longest now samples.now (λ k. is_over limit (count_asked (Some k) (left_after cells.now (kept_in places.now) depth longest now samples.now))) }
 {
     match limit {
         None => false,
-        Some(_) => any_kept_over(limit, cells, changes, depth, longest, now, samples)
-            || any_new_over(limit, cells, changes, depth, longest, now, samples),
+        Some(_) => any_kept_over(limit, cells, places, depth, longest, now, samples)
+            || any_new_over(limit, cells, places, depth, longest, now, samples),
     }
 }
 
@@ -315,19 +328,19 @@ fn is_any_over(
 fn are_changes_over(
     limit: Option<u32>,
     cells: &Sorted,
-    changes: &[Change],
+    places: &[Place],
     depth: Option<u32>,
     longest: u64,
     now: Ticks,
     samples: &[Sample],
 ) -> bool
-    ensures { result ≡ is_over limit (count_asked None (left_after cells.now changes.now depth longest now samples.now)) }
+    ensures { result ≡ is_over limit (count_asked None (left_after cells.now (kept_in places.now) depth longest now samples.now)) }
 {
     match limit {
         None => false,
         Some(_) => is_over(
             limit,
-            count_left(cells, changes, depth, longest, now, samples, &None),
+            count_left(cells, places, depth, longest, now, samples, &None),
         ),
     }
 }
@@ -336,11 +349,11 @@ fn are_changes_over(
 pub fn would_over(
     topic: &Topic,
     cells: &Sorted,
-    changes: &[Change],
+    places: &[Place],
     now: Ticks,
     samples: &[Sample],
 ) -> Option<Limit>
-    ensures { result ≡ passed_after topic.now cells.now changes.now (topic.now.delay * 2 ^ 32) now samples.now }
+    ensures { result ≡ passed_after topic.now cells.now (kept_in places.now) (topic.now.delay * 2 ^ 32) now samples.now }
 {
     let longest = topic.delay as u64 * 4_294_967_296;
     let depth = topic.depth;
@@ -349,7 +362,7 @@ pub fn would_over(
     } else if is_any_over(
         topic.max_per_instance,
         cells,
-        changes,
+        places,
         depth,
         longest,
         now,
@@ -359,7 +372,7 @@ pub fn would_over(
     } else if are_changes_over(
         topic.max_samples,
         cells,
-        changes,
+        places,
         depth,
         longest,
         now,

@@ -9,6 +9,7 @@ use Rattle.dur_instances.specs.Layout.{rows_of, lates_of, IsLaid}
 use Rattle.dur_instances.specs.declared.cells.Cell.{Cell}
 use Rattle.dur_instances.specs.declared.changes.Change.{Change}
 use Rattle.dur_instances.specs.Due.{due_of}
+use Rattle.dur_instances.specs.Places.{kept_in}
 use Rattle.dur_instances.specs.FromView.{cell_of_line, lines_in, with_lines, changes_in}
 use Rattle.dur_instances.proofs.FromView.{laid-from, same-from}
 use Rattle.dur_instances.proofs.instances.Instances.of_view.Goals as goal
@@ -27,7 +28,7 @@ invariant_of-result c =
           (c.in_ok-cells.ensures ∙ ap (λ (l : List Instance). map cell_of_line (lines_in t l)) c.as_slice-lines.ensures)
           (c.in_ok-registered.ensures ∙ ap (λ (l : List Instance). with_lines (lines_in t l) []) c.as_slice-lines.ensures)
           (c.in_ok-changes.ensures ∙ ap (λ (l : List Instance). changes_in s.depth t l c.as_slice.result.now) c.as_slice-lines.ensures ∙ ap (λ (l : List Kept). changes_in s.depth t v.instances l) c.as_slice.ensures)),
-      (let is = c.due_of.ensures ∙ ap (λ (l : List Cell). due_of (s.delay * 2 ^ 32) l c.deref-2.result.now) c.deref.ensures.value ∙ ap (λ (l : List Change). due_of (s.delay * 2 ^ 32) cells l) c.deref-2.ensures.value
+      (let is = c.due_of.ensures ∙ ap (λ (l : List Cell). due_of (s.delay * 2 ^ 32) l (kept_in c.places.result.now)) c.deref.ensures.value ∙ ap (λ (l : List Change). due_of (s.delay * 2 ^ 32) cells l) c.places.ensures
           ∙ ap (λ (x : Topic). due_of (x.delay * 2 ^ 32) cells changes) (sym c.copy.ensures) in omega arith),
     )
 
