@@ -23,8 +23,8 @@ use Rattle.dur_hub.specs.Answers.{TellsReceive, TellsOf}
 use Rattle.dur_hub.proofs.Going.{moment_steps}
 use Rattle.dur_rerun.specs.declared.rerun.nacks.Nack.{Nack}
 use Rattle.dur_rerun.specs.Rerun.Replies.{nacks}
+use Rattle.dur_rerun.specs.Input.Records.{latest}
 use Rattle.dur_rerun.specs.Admission.{IsWhole, Brings, Admitted, BringAll}
-use Rattle.dur_rerun.specs.List.Listing.{latest}
 
 -- ---- one call
 

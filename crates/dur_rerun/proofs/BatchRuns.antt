@@ -189,6 +189,7 @@ settled_on tells first now hub hub' w u some so =
 
 pub ends_storing : (appended generation : ℕ) (r : Run) (s : Status) → StoreFails appended generation r s → EndsStoring s
 ends_storing appended generation r status.Worn fails = tt
+ends_storing appended generation r status.TooMany fails = absurd fails
 ends_storing appended generation r (status.Full size) fails = tt
 ends_storing appended generation r status.DiskFault fails = tt
 ends_storing appended generation r status.OutOfMemory fails = tt

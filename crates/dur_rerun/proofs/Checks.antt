@@ -6,7 +6,7 @@ use Rattle.dur_outside.specs.World.{Image}
 use Rattle.dur_outside.specs.Causes.{Rose}
 use Rattle.dur_rerun.specs.declared.check.looks.Looks.{Looks}
 use Rattle.dur_rerun.specs.declared.status.Status.{Status}
-use Rattle.dur_rerun.specs.declared.status.Status.TheVariants.{Done, Usage, OutOfMemory, Input, ReadFault, WriteFault, Plan, DiskFault, NotAJournal, PlanDiffers, Full, Worn}
+use Rattle.dur_rerun.specs.declared.status.Status.TheVariants.{Done, Usage, OutOfMemory, Input, ReadFault, WriteFault, Plan, DiskFault, NotAJournal, PlanDiffers, Full, Worn, TooMany}
 use Rattle.dur_rerun.specs.Command.{IsTold, GoesOut}
 use Rattle.dur_rerun.specs.Saying.{IsSaid, wrote}
 use Rattle.dur_rerun.specs.Check.Line.{file_line, live_text}
@@ -100,6 +100,7 @@ completes (Plan line kind) files text disks disks_now writes writes_now a r look
 completes (PlanDiffers name) files text disks disks_now writes writes_now a r looks are disk write = absurd a
 completes (Full size) files text disks disks_now writes writes_now a r looks are disk write = absurd a
 completes Worn files text disks disks_now writes writes_now a r looks are disk write = absurd a
+completes TooMany files text disks disks_now writes writes_now a r looks are disk write = absurd a
 
 -- a status that says what the files call for is that of their text
 record Told (files : Image) (text : List ℕ) (s : Status) : Type 0 where
@@ -120,6 +121,7 @@ told (Plan line kind) files text t a = absurd a
 told (PlanDiffers name) files text t a = absurd a
 told (Full size) files text t a = absurd a
 told Worn files text t a = absurd a
+told TooMany files text t a = absurd a
 
 text_once : (files : Image) (t u : List ℕ) (b c : Option (FileId × ℕ)) → Checks files t b → Checks files u c → t ≡ u
 text_once files t u b c x y =

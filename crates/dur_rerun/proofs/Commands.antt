@@ -6,8 +6,8 @@ use Rattle.bytes.proofs.Ranges.{take-append_past}
 use Rattle.dur_outside.specs.World.{Image}
 use Rattle.dur_outside.specs.Causes.{Rose}
 use Rattle.dur_rerun.specs.declared.status.Status.{Status}
-use Rattle.dur_rerun.specs.declared.status.Status.TheVariants.{Done, Usage, OutOfMemory, Input, ReadFault, WriteFault, Plan, DiskFault, NotAJournal, PlanDiffers, Full, Worn}
-use Rattle.dur_rerun.specs.Command.{IsTold, IsFunction, HasReason, Arrives, GoesOut, Keeps}
+use Rattle.dur_rerun.specs.declared.status.Status.TheVariants.{Done, Usage, OutOfMemory, Input, ReadFault, WriteFault, Plan, DiskFault, NotAJournal, PlanDiffers, Full, Worn, TooMany}
+use Rattle.dur_rerun.specs.Command.{IsTold, IsRead, IsFunction, HasReason, Arrives, GoesOut, Keeps}
 use Rattle.dur_rerun.specs.Input.Whole.{IsWholeInput}
 use Rattle.dur_rerun.specs.Saying.{IsSaid, wrote}
 
@@ -97,11 +97,12 @@ answer_comes answers laws input text t (NotAJournal file place) a P Q h read wri
 answer_comes answers laws input text t (PlanDiffers name) a P Q h read write told other p q = inl (laws.once input text t (PlanDiffers name) a tt told h other).1
 answer_comes answers laws input text t (Full size) a P Q h read write told other p q = inl (laws.once input text t (Full size) a tt told h other).1
 answer_comes answers laws input text t Worn a P Q h read write told other p q = inl (laws.once input text t Worn a tt told h other).1
+answer_comes answers laws input text t TooMany a P Q h read write told other p q = inl (laws.once input text t TooMany a tt told h other).1
 answer_comes answers laws input text t DiskFault a P Q h read write told other p q = absurd (laws.files input text h)
 
 whole_comes : (answers : List ℕ → List ℕ → Status → Type 0) → IsFunction answers → (input text : List ℕ) (s : Status) (P Q : Type 0) → IsWholeInput input → answers input text s → (s ≡ ReadFault → P) → (s ≡ WriteFault → Q)
-    → (P → ⊥) → (Q → ⊥) → (s ≡ Done) ⊎ (s ≡ OutOfMemory)
-whole_comes answers laws input text Done P Q w h read write p q = inl refl
+    → (P → ⊥) → (Q → ⊥) → IsRead s ⊎ (s ≡ OutOfMemory)
+whole_comes answers laws input text Done P Q w h read write p q = inl tt
 whole_comes answers laws input text Usage P Q w h read write p q = absurd (laws.words input text h)
 whole_comes answers laws input text OutOfMemory P Q w h read write p q = inr refl
 whole_comes answers laws input text (Input place fault) P Q w h read write p q = inl (laws.whole input text (Input place fault) w tt h)
@@ -112,6 +113,7 @@ whole_comes answers laws input text (NotAJournal file place) P Q w h read write 
 whole_comes answers laws input text (PlanDiffers name) P Q w h read write p q = inl (laws.whole input text (PlanDiffers name) w tt h)
 whole_comes answers laws input text (Full size) P Q w h read write p q = inl (laws.whole input text (Full size) w tt h)
 whole_comes answers laws input text Worn P Q w h read write p q = inl (laws.whole input text Worn w tt h)
+whole_comes answers laws input text TooMany P Q w h read write p q = inl (laws.whole input text TooMany w tt h)
 whole_comes answers laws input text DiskFault P Q w h read write p q = absurd (laws.files input text h)
 
 silent_comes : (answers : List ℕ → List ℕ → Status → Type 0) → IsFunction answers → (input text : List ℕ) (s a : Status) (P : Type 0) → answers input text s → (s ≡ ReadFault → P) → IsTold a → answers input [] a
@@ -127,6 +129,7 @@ silent_comes answers laws input text (NotAJournal file place) a P h read told ot
 silent_comes answers laws input text (PlanDiffers name) a P h read told other p = inl (laws.once input text [] (PlanDiffers name) a tt told h other).1
 silent_comes answers laws input text (Full size) a P h read told other p = inl (laws.once input text [] (Full size) a tt told h other).1
 silent_comes answers laws input text Worn a P h read told other p = inl (laws.once input text [] Worn a tt told h other).1
+silent_comes answers laws input text TooMany a P h read told other p = inl (laws.once input text [] TooMany a tt told h other).1
 silent_comes answers laws input text DiskFault a P h read told other p = absurd (laws.files input text h)
 
 -- where the relation is a function

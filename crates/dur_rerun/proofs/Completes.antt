@@ -7,7 +7,7 @@ use Rattle.dur_qos.specs.declared.plan.Plan.{Plan as PlanOf}
 use Rattle.dur_journal.specs.declared.opening.OpenFault.{OpenFault}
 use Rattle.dur_journal.specs.declared.opening.OpenFault.TheVariants as fault
 use Rattle.dur_rerun.specs.declared.status.Status.{Status}
-use Rattle.dur_rerun.specs.declared.status.Status.TheVariants.{Done, Usage, OutOfMemory, Input, ReadFault, WriteFault, Plan, DiskFault, NotAJournal, PlanDiffers, Full, Worn}
+use Rattle.dur_rerun.specs.declared.status.Status.TheVariants.{Done, Usage, OutOfMemory, Input, ReadFault, WriteFault, Plan, DiskFault, NotAJournal, PlanDiffers, Full, Worn, TooMany}
 use Rattle.dur_rerun.specs.Input.Breaks.{EndsPlan, StopsPlan}
 use Rattle.dur_rerun.specs.Input.Whole.{IsWholeInput}
 use Rattle.dur_rerun.specs.Rerun.Answer.{EndsCourse, IsComplete, OpensNot, ReadsBehind, Reruns, RunsOn, open_status}
@@ -32,6 +32,7 @@ plan_complete (NotAJournal file place) bytes whole none ends stops = absurd ends
 plan_complete (PlanDiffers name) bytes whole none ends stops = absurd ends
 plan_complete (Full size) bytes whole none ends stops = absurd ends
 plan_complete Worn bytes whole none ends stops = absurd ends
+plan_complete TooMany bytes whole none ends stops = absurd ends
 
 open_complete : (why : OpenFault) → NoFault (open_status why) → IsComplete (open_status why)
 open_complete fault.Disk none = absurd (none.disk refl)
@@ -49,6 +50,7 @@ course_complete Done plan bytes rs whole none ends reads = tt
 course_complete OutOfMemory plan bytes rs whole none ends reads = tt
 course_complete (Full size) plan bytes rs whole none ends reads = tt
 course_complete Worn plan bytes rs whole none ends reads = tt
+course_complete TooMany plan bytes rs whole none ends reads = absurd ends
 course_complete ReadFault plan bytes rs whole none ends reads = absurd (none.read refl)
 course_complete WriteFault plan bytes rs whole none ends reads = absurd (none.write refl)
 course_complete DiskFault plan bytes rs whole none ends reads = absurd (none.disk refl)

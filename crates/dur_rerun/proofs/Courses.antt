@@ -26,7 +26,7 @@ use Rattle.dur_rerun.specs.Rerun.Services.{Serves, ServesSome, MayServe, EndsHan
 use Rattle.dur_rerun.specs.Rerun.Answer.{IsFull, IsRead, RunsOver, StopsFull}
 use Rattle.dur_rerun.specs.Input.Breaks.{EndsRecords}
 use Rattle.dur_rerun.specs.declared.status.Status.{Status}
-use Rattle.dur_rerun.specs.declared.status.Status.TheVariants.{Done, Usage, OutOfMemory, Input, ReadFault, WriteFault, DiskFault, Plan as BadPlan, NotAJournal, PlanDiffers, Full, Worn}
+use Rattle.dur_rerun.specs.declared.status.Status.TheVariants.{Done, Usage, OutOfMemory, Input, ReadFault, WriteFault, DiskFault, Plan as BadPlan, NotAJournal, PlanDiffers, Full, Worn, TooMany}
 use Rattle.dur_rerun.specs.Rerun.Stores.{stored_all, IsSettled, IsKeeping, IsStoring, IsStoredUp, EndsStoring, FailsToStore, rig_of}
 use Rattle.dur_rerun.proofs.Serving.{covered_calls}
 use Rattle.dur_rerun.proofs.Recording.{storing_ends}
@@ -231,6 +231,7 @@ not_read WriteFault ends read = read
 not_read DiskFault ends read = read
 not_read (Full size) ends read = read
 not_read Worn ends read = read
+not_read TooMany ends read = read
 not_read Usage ends read = read
 not_read (BadPlan line kind) ends read = read
 not_read (NotAJournal file place) ends read = read
@@ -249,6 +250,7 @@ full_by own plan begun rs (NotAJournal file place) full = tt
 full_by own plan begun rs (PlanDiffers name) full = tt
 full_by own plan begun rs (Full size) full = full
 full_by own plan begun rs Worn full = full
+full_by own plan begun rs TooMany full = tt
 
 full_reading : (own : List ℕ) (plan : Plan) (begun : Run) (rs : List Record) (s : Status) → EndsRecords s → StopsFull own plan begun rs s
 full_reading own plan begun rs (Input place why) ends = tt
@@ -263,6 +265,7 @@ full_reading own plan begun rs (NotAJournal file place) ends = absurd ends
 full_reading own plan begun rs (PlanDiffers name) ends = absurd ends
 full_reading own plan begun rs (Full size) ends = absurd ends
 full_reading own plan begun rs Worn ends = absurd ends
+full_reading own plan begun rs TooMany ends = absurd ends
 
 -- while a record was handled
 full_at : (own : List ℕ) (plan : Plan) (begun : Run) (rs : List Record) (r : Record) (acks : List Ack) (text : List ℕ) (place : Place) (s : Status) → Course own (place_at begun [] []) rs acks text place → IsFullAt own plan place r s
@@ -284,6 +287,7 @@ full_handling : (own : List ℕ) (plan : Plan) (begun : Run) (rs : List Record) 
     → StopsFull own plan begun (rs ++ r ∷ []) s
 full_handling own plan begun rs r acks text place (Full size) course f = full_at own plan begun rs r acks text place (Full size) course f
 full_handling own plan begun rs r acks text place Worn course f = full_at own plan begun rs r acks text place Worn course f
+full_handling own plan begun rs r acks text place TooMany course f = tt
 full_handling own plan begun rs r acks text place Done course f = tt
 full_handling own plan begun rs r acks text place Usage course f = tt
 full_handling own plan begun rs r acks text place OutOfMemory course f = tt

@@ -11,7 +11,7 @@ use Rattle.dur_capture.specs.declared.fault.CapFault.TheVariants as cap
 use Rattle.dur_capture.specs.Capture.{record_text}
 use Rattle.dur_capture.specs.Feeding.{Feeding, Takes, Waits, Stops}
 use Rattle.dur_rerun.specs.declared.status.Status.{Status}
-use Rattle.dur_rerun.specs.declared.status.Status.TheVariants.{Done, Usage, OutOfMemory, Input, ReadFault, WriteFault, Plan, DiskFault, NotAJournal, PlanDiffers, Full, Worn}
+use Rattle.dur_rerun.specs.declared.status.Status.TheVariants.{Done, Usage, OutOfMemory, Input, ReadFault, WriteFault, Plan, DiskFault, NotAJournal, PlanDiffers, Full, Worn, TooMany}
 use Rattle.dur_rerun.specs.Input.Breaks.{capture_status, EndsRecords, EndsRefill}
 use Rattle.dur_rerun.specs.Input.Records.{total, given, Refills, HandsOut, Ends, BreaksOff, StopsRecords}
 
@@ -95,6 +95,7 @@ refill_ends (NotAJournal file at') ends = absurd ends
 refill_ends (PlanDiffers name) ends = absurd ends
 refill_ends (Full size) ends = absurd ends
 refill_ends Worn ends = absurd ends
+refill_ends TooMany ends = absurd ends
 refill_ends WriteFault ends = absurd ends
 refill_ends (Input place fault) ends = absurd ends
 refill_ends (Plan line kind) ends = absurd ends
@@ -109,6 +110,7 @@ refill_stops (NotAJournal file at') known now old ends = absurd ends
 refill_stops (PlanDiffers name) known now old ends = absurd ends
 refill_stops (Full size) known now old ends = absurd ends
 refill_stops Worn known now old ends = absurd ends
+refill_stops TooMany known now old ends = absurd ends
 refill_stops WriteFault known now old ends = absurd ends
 refill_stops (Input place fault) known now old ends = absurd ends
 refill_stops (Plan line kind) known now old ends = absurd ends

@@ -19,20 +19,21 @@ use Rattle.dur_hub.specs.Replays.{listing}
 use Rattle.dur_hub.specs.Hubs.{Stands}
 use Rattle.dur_rerun.specs.declared.input.plan.Opened.{Opened}
 use Rattle.dur_rerun.specs.declared.status.Status.{Status}
-use Rattle.dur_rerun.specs.declared.status.Status.TheVariants.{Done, Usage, OutOfMemory, Input, ReadFault, WriteFault, Plan, DiskFault, NotAJournal, PlanDiffers, Full, Worn}
+use Rattle.dur_rerun.specs.declared.status.Status.TheVariants.{Done, Usage, OutOfMemory, Input, ReadFault, WriteFault, Plan, DiskFault, NotAJournal, PlanDiffers, Full, Worn, TooMany}
 use Rattle.dur_rerun.specs.Admission.{BringAll}
 use Rattle.dur_rerun.specs.Command.{HasReason, GoesOut, status_of}
 use Rattle.dur_rerun.specs.Saying.{IsSaid, wrote}
-use Rattle.dur_rerun.specs.Input.Breaks.{EndsPlan, StopsPlan, EndsRecords}
+use Rattle.dur_rerun.specs.Input.Breaks.{EndsPlan, StopsPlan, EndsRecords, StopsRest}
 use Rattle.dur_rerun.specs.Input.Plan.{Opens}
 use Rattle.dur_rerun.specs.Input.Prefix.{own_prefix}
 use Rattle.dur_rerun.specs.List.Line.{topic_text}
-use Rattle.dur_rerun.specs.List.Listing.{latest, lines_from, list_text, IsListing}
-use Rattle.dur_rerun.specs.List.History.{TakesWhole, StopsRest}
+use Rattle.dur_rerun.specs.Input.Records.{latest}
+use Rattle.dur_rerun.specs.List.Listing.{lines_from, list_text, IsListing}
+use Rattle.dur_rerun.specs.List.History.{TakesWhole}
 use Rattle.dur_rerun.specs.List.Answer.{Lists, ListAnswers, ListEnds, EndsUnwritten}
 use Rattle.dur_rerun.proofs.Admitting.{calls_keep}
 use Rattle.dur_rerun.proofs.Commands.{if_some, all_out}
-use Rattle.dur_rerun.proofs.Whole.{plan_more, behind_plan, behind}
+use Rattle.dur_rerun.proofs.Opened.{plan_good, lifted}
 
 -- ---- the text of a hub
 
@@ -48,26 +49,8 @@ within_topics place n all topics others sum some same = omega (arith, sum, some,
 
 -- ---- the plan in front
 
-pub plan_good : (seen : List ℕ) (p : Opened) → Opens seen p → GoodPlan p.plan
-plan_good seen p o = text_good seen p.plan o.n o.plan_is
-
 pub few_topics : (seen : List ℕ) (p : Opened) (topics : List Topic) → Opens seen p → topics ≡ p.plan.topics → length topics ≤ 1024
 few_topics seen p topics o same = omega (arith, (plan_good seen p o).topic_count, ap length same)
-
--- nothing was handed out of what came behind the plan
-pub fresh_feed : (seen : List ℕ) (p : Opened) → Opens seen p → (p.feed.before ≤ 2 ^ 40) × (p.feed.taken ≡ 0) × (p.feed.fault ≡ None)
-fresh_feed seen p o =
-    let before : p.feed.before ≡ o.n = ap (λ (f : Feeding). f.before) o.feed_is in
-    (omega (arith, before, o.within), ap (λ (f : Feeding). f.taken) o.feed_is, ap (λ (f : Feeding). f.fault) o.feed_is)
-
--- what holds of the octets behind the plan
-pub lifted : (known mid : Option (List ℕ)) (seen : List ℕ) (p : Opened) (o : Opens seen p) (F : ℕ → List ℕ → Type 0) (P : List ℕ → Type 0) → Consumes known mid seen
-    → IfSome mid (λ tail. F p.feed.before (p.feed.left ++ tail)) → ((input : List ℕ) → PlanText input p.plan o.n → F o.n (drop o.n input) → P input) → IfSome known P
-lifted known mid seen p o F P consumed holds leads =
-    behind known mid seen P (λ tail. F p.feed.before (p.feed.left ++ tail)) consumed holds (λ tail h.
-    let octets : p.feed.left ++ tail ≡ drop o.n (seen ++ tail) = ap (λ (f : Feeding). f.left ++ tail) o.feed_is ∙ behind_plan seen tail p.plan o.n o.plan_is in
-    leads (seen ++ tail) (plan_more seen tail p.plan o.n o.plan_is)
-    (subst (F o.n) octets (subst (λ (k : ℕ). F k (p.feed.left ++ tail)) (ap (λ (f : Feeding). f.before) o.feed_is) h)))
 
 -- ---- the listing
 
@@ -109,6 +92,7 @@ rest_answers (NotAJournal file at') at epoch input p n plan_is ends stops = absu
 rest_answers (PlanDiffers name) at epoch input p n plan_is ends stops = absurd ends
 rest_answers (Full size) at epoch input p n plan_is ends stops = absurd ends
 rest_answers Worn at epoch input p n plan_is ends stops = absurd ends
+rest_answers TooMany at epoch input p n plan_is ends stops = absurd ends
 rest_answers WriteFault at epoch input p n plan_is ends stops = absurd ends
 rest_answers (Plan line kind) at epoch input p n plan_is ends stops = absurd ends
 
@@ -130,6 +114,7 @@ plan_lists (NotAJournal file at') at epoch input ends stops = absurd ends
 plan_lists (PlanDiffers name) at epoch input ends stops = absurd ends
 plan_lists (Full size) at epoch input ends stops = absurd ends
 plan_lists Worn at epoch input ends stops = absurd ends
+plan_lists TooMany at epoch input ends stops = absurd ends
 plan_lists WriteFault at epoch input ends stops = absurd ends
 plan_lists (Input place fault) at epoch input ends stops = absurd ends
 
@@ -146,6 +131,7 @@ plan_unwritten (NotAJournal file at') ends = absurd ends
 plan_unwritten (PlanDiffers name) ends = absurd ends
 plan_unwritten (Full size) ends = absurd ends
 plan_unwritten Worn ends = absurd ends
+plan_unwritten TooMany ends = absurd ends
 plan_unwritten WriteFault ends = absurd ends
 plan_unwritten (Input place fault) ends = absurd ends
 
@@ -160,6 +146,7 @@ records_unwritten (NotAJournal file at') ends = absurd ends
 records_unwritten (PlanDiffers name) ends = absurd ends
 records_unwritten (Full size) ends = absurd ends
 records_unwritten Worn ends = absurd ends
+records_unwritten TooMany ends = absurd ends
 records_unwritten WriteFault ends = absurd ends
 records_unwritten (Plan line kind) ends = absurd ends
 
@@ -175,6 +162,7 @@ unwritten_ends (NotAJournal file at') ends = absurd ends
 unwritten_ends (PlanDiffers name) ends = absurd ends
 unwritten_ends (Full size) ends = absurd ends
 unwritten_ends Worn ends = absurd ends
+unwritten_ends TooMany ends = absurd ends
 unwritten_ends WriteFault ends = absurd ends
 
 -- ---- the text goes out

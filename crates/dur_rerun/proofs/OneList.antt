@@ -11,13 +11,14 @@ use Rattle.dur_view.specs.Full.{blank}
 use Rattle.dur_hub.specs.Runs.{Run, opening}
 use Rattle.dur_hub.proofs.Same.{law_same}
 use Rattle.dur_rerun.specs.declared.status.Status.{Status}
-use Rattle.dur_rerun.specs.declared.status.Status.TheVariants.{Done, Usage, OutOfMemory, Input, ReadFault, WriteFault, Plan, DiskFault, NotAJournal, PlanDiffers, Full, Worn}
+use Rattle.dur_rerun.specs.declared.status.Status.TheVariants.{Done, Usage, OutOfMemory, Input, ReadFault, WriteFault, Plan, DiskFault, NotAJournal, PlanDiffers, Full, Worn, TooMany}
 use Rattle.dur_rerun.specs.Admission.{Admits}
-use Rattle.dur_rerun.specs.Command.{IsTold, IsFunction}
+use Rattle.dur_rerun.specs.Command.{IsTold, IsRead, IsFunction}
 use Rattle.dur_rerun.specs.Input.Breaks.{PlanBreaks, CaptureBreaks}
 use Rattle.dur_rerun.specs.Input.Prefix.{own_prefix}
+use Rattle.dur_rerun.specs.Input.Records.{latest}
 use Rattle.dur_rerun.specs.Input.Whole.{IsWholeInput}
-use Rattle.dur_rerun.specs.List.Listing.{latest, list_text}
+use Rattle.dur_rerun.specs.List.Listing.{list_text}
 use Rattle.dur_rerun.specs.List.Answer.{Lists, ListAnswers}
 use Rattle.dur_rerun.proofs.Admitting.{all_alike}
 use Rattle.dur_rerun.proofs.OneInput.{one_end, capture_or_break, one_break, one_place, plan_or_break, one_plan_break, whole_or_break, whole_or_plan_break}
@@ -59,6 +60,7 @@ list_once at epoch input t u Done (NotAJournal file at') a b h k = absurd k
 list_once at epoch input t u Done (PlanDiffers name) a b h k = absurd k
 list_once at epoch input t u Done (Full size) a b h k = absurd k
 list_once at epoch input t u Done Worn a b h k = absurd k
+list_once at epoch input t u Done TooMany a b h k = absurd k
 list_once at epoch input t u Done OutOfMemory a b h k = absurd b
 list_once at epoch input t u Done (Input place' fault') a b h k = absurd (lists_or_break at epoch input t fault' h k.2)
 list_once at epoch input t u Done ReadFault a b h k = absurd b
@@ -70,6 +72,7 @@ list_once at epoch input t u (NotAJournal file at') r a b h k = absurd h
 list_once at epoch input t u (PlanDiffers name) r a b h k = absurd h
 list_once at epoch input t u (Full size) r a b h k = absurd h
 list_once at epoch input t u Worn r a b h k = absurd h
+list_once at epoch input t u TooMany r a b h k = absurd h
 list_once at epoch input t u OutOfMemory r a b h k = absurd a
 list_once at epoch input t u (Input place fault) Done a b h k = absurd (lists_or_break at epoch input u fault k h.2)
 list_once at epoch input t u (Input place fault) Usage a b h k = absurd b
@@ -78,6 +81,7 @@ list_once at epoch input t u (Input place fault) (NotAJournal file at') a b h k 
 list_once at epoch input t u (Input place fault) (PlanDiffers name) a b h k = absurd k
 list_once at epoch input t u (Input place fault) (Full size) a b h k = absurd k
 list_once at epoch input t u (Input place fault) Worn a b h k = absurd k
+list_once at epoch input t u (Input place fault) TooMany a b h k = absurd k
 list_once at epoch input t u (Input place fault) OutOfMemory a b h k = absurd b
 list_once at epoch input t u (Input place fault) (Input place' fault') a b h k = (both_empty t u h.0 k.0, one_place fault fault' place place' (one_break input fault fault' h.2 k.2) h.1 k.1)
 list_once at epoch input t u (Input place fault) ReadFault a b h k = absurd b
@@ -92,6 +96,7 @@ list_once at epoch input t u (Plan line kind) (NotAJournal file at') a b h k = a
 list_once at epoch input t u (Plan line kind) (PlanDiffers name) a b h k = absurd k
 list_once at epoch input t u (Plan line kind) (Full size) a b h k = absurd k
 list_once at epoch input t u (Plan line kind) Worn a b h k = absurd k
+list_once at epoch input t u (Plan line kind) TooMany a b h k = absurd k
 list_once at epoch input t u (Plan line kind) OutOfMemory a b h k = absurd b
 list_once at epoch input t u (Plan line kind) (Input place' fault') a b h k = absurd (break_or_plan input fault' line kind k.2 h.1)
 list_once at epoch input t u (Plan line kind) ReadFault a b h k = absurd b
@@ -106,20 +111,22 @@ list_writes at epoch input t (NotAJournal file at') a h k = k
 list_writes at epoch input t (PlanDiffers name) a h k = k
 list_writes at epoch input t (Full size) a h k = k
 list_writes at epoch input t Worn a h k = k
+list_writes at epoch input t TooMany a h k = k
 list_writes at epoch input t OutOfMemory a h k = absurd a
 list_writes at epoch input t (Input place fault) a h k = lists_or_break at epoch input t fault h.1 k.2
 list_writes at epoch input t ReadFault a h k = absurd a
 list_writes at epoch input t WriteFault a h k = absurd a
 list_writes at epoch input t (Plan line kind) a h k = lists_or_plan at epoch input t line kind h.1 k.1
 
-list_whole : (at epoch : ℕ) (input t : List ℕ) (s : Status) → IsWholeInput input → IsTold s → ListAnswers at epoch input t s → s ≡ Done
-list_whole at epoch input t Done w a h = refl
+list_whole : (at epoch : ℕ) (input t : List ℕ) (s : Status) → IsWholeInput input → IsTold s → ListAnswers at epoch input t s → IsRead s
+list_whole at epoch input t Done w a h = tt
 list_whole at epoch input t Usage w a h = absurd a
 list_whole at epoch input t DiskFault w a h = absurd h
 list_whole at epoch input t (NotAJournal file at') w a h = absurd h
 list_whole at epoch input t (PlanDiffers name) w a h = absurd h
 list_whole at epoch input t (Full size) w a h = absurd h
 list_whole at epoch input t Worn w a h = absurd h
+list_whole at epoch input t TooMany w a h = absurd h
 list_whole at epoch input t OutOfMemory w a h = absurd a
 list_whole at epoch input t (Input place fault) w a h = absurd (whole_or_break input fault w h.2)
 list_whole at epoch input t ReadFault w a h = absurd a

@@ -17,8 +17,8 @@ use Rattle.dur_qos.proofs.Verdicts.{one_plan, plan_or_fault}
 use Rattle.rtps_message.specs.declared.heard.Heard.{Heard}
 use Rattle.rtps_message.proofs.Once.{hears_once}
 use Rattle.dur_rerun.specs.declared.status.Status.{Status}
-use Rattle.dur_rerun.specs.declared.status.Status.TheVariants.{Done, Usage, OutOfMemory, Input, ReadFault, WriteFault, Plan, DiskFault, NotAJournal, PlanDiffers, Full, Worn}
-use Rattle.dur_rerun.specs.Command.{IsTold, IsFunction}
+use Rattle.dur_rerun.specs.declared.status.Status.TheVariants.{Done, Usage, OutOfMemory, Input, ReadFault, WriteFault, Plan, DiskFault, NotAJournal, PlanDiffers, Full, Worn, TooMany}
+use Rattle.dur_rerun.specs.Command.{IsTold, IsRead, IsFunction}
 use Rattle.dur_rerun.specs.Input.Breaks.{PlanBreaks, CaptureBreaks}
 use Rattle.dur_rerun.specs.Input.Prefix.{own_prefix}
 use Rattle.dur_rerun.specs.Input.Whole.{IsWholeInput}
@@ -114,6 +114,7 @@ rest_once own before octets t u Done (NotAJournal file at') a b h k = absurd k
 rest_once own before octets t u Done (PlanDiffers name) a b h k = absurd k
 rest_once own before octets t u Done (Full size) a b h k = absurd k
 rest_once own before octets t u Done Worn a b h k = absurd k
+rest_once own before octets t u Done TooMany a b h k = absurd k
 rest_once own before octets t u Done OutOfMemory a b h k = absurd b
 rest_once own before octets t u Done (Input place' fault') a b h k = absurd (all_or_break own before octets t u fault' h k.1)
 rest_once own before octets t u Done ReadFault a b h k = absurd b
@@ -125,6 +126,7 @@ rest_once own before octets t u (NotAJournal file at') r a b h k = absurd h
 rest_once own before octets t u (PlanDiffers name) r a b h k = absurd h
 rest_once own before octets t u (Full size) r a b h k = absurd h
 rest_once own before octets t u Worn r a b h k = absurd h
+rest_once own before octets t u TooMany r a b h k = absurd h
 rest_once own before octets t u OutOfMemory r a b h k = absurd a
 rest_once own before octets t u (Input place fault) Done a b h k = absurd (all_or_break own before octets u t fault k h.1)
 rest_once own before octets t u (Input place fault) Usage a b h k = absurd b
@@ -133,6 +135,7 @@ rest_once own before octets t u (Input place fault) (NotAJournal file at') a b h
 rest_once own before octets t u (Input place fault) (PlanDiffers name) a b h k = absurd k
 rest_once own before octets t u (Input place fault) (Full size) a b h k = absurd k
 rest_once own before octets t u (Input place fault) Worn a b h k = absurd k
+rest_once own before octets t u (Input place fault) TooMany a b h k = absurd k
 rest_once own before octets t u (Input place fault) OutOfMemory a b h k = absurd b
 rest_once own before octets t u (Input place fault) (Input place' fault') a b h k = let same = break_once own before octets t u fault fault' h.1 k.1 in (same.0, one_place fault fault' place place' same.1 h.0 k.0)
 rest_once own before octets t u (Input place fault) ReadFault a b h k = absurd b
@@ -158,6 +161,7 @@ show_once epoch input t u Done (NotAJournal file at') a b h k = absurd k.rest
 show_once epoch input t u Done (PlanDiffers name) a b h k = absurd k.rest
 show_once epoch input t u Done (Full size) a b h k = absurd k.rest
 show_once epoch input t u Done Worn a b h k = absurd k.rest
+show_once epoch input t u Done TooMany a b h k = absurd k.rest
 show_once epoch input t u Done OutOfMemory a b h k = absurd b
 show_once epoch input t u Done (Input place' fault') a b h k = behind_once epoch input t u Done (Input place' fault') a b h k
 show_once epoch input t u Done ReadFault a b h k = absurd b
@@ -169,6 +173,7 @@ show_once epoch input t u (NotAJournal file at') r a b h k = absurd h.rest
 show_once epoch input t u (PlanDiffers name) r a b h k = absurd h.rest
 show_once epoch input t u (Full size) r a b h k = absurd h.rest
 show_once epoch input t u Worn r a b h k = absurd h.rest
+show_once epoch input t u TooMany r a b h k = absurd h.rest
 show_once epoch input t u OutOfMemory r a b h k = absurd a
 show_once epoch input t u (Input place fault) Done a b h k = behind_once epoch input t u (Input place fault) Done a b h k
 show_once epoch input t u (Input place fault) Usage a b h k = absurd b
@@ -177,6 +182,7 @@ show_once epoch input t u (Input place fault) (NotAJournal file at') a b h k = a
 show_once epoch input t u (Input place fault) (PlanDiffers name) a b h k = absurd k.rest
 show_once epoch input t u (Input place fault) (Full size) a b h k = absurd k.rest
 show_once epoch input t u (Input place fault) Worn a b h k = absurd k.rest
+show_once epoch input t u (Input place fault) TooMany a b h k = absurd k.rest
 show_once epoch input t u (Input place fault) OutOfMemory a b h k = absurd b
 show_once epoch input t u (Input place fault) (Input place' fault') a b h k = behind_once epoch input t u (Input place fault) (Input place' fault') a b h k
 show_once epoch input t u (Input place fault) ReadFault a b h k = absurd b
@@ -191,6 +197,7 @@ show_once epoch input t u (Plan line kind) (NotAJournal file at') a b h k = absu
 show_once epoch input t u (Plan line kind) (PlanDiffers name) a b h k = absurd k.rest
 show_once epoch input t u (Plan line kind) (Full size) a b h k = absurd k.rest
 show_once epoch input t u (Plan line kind) Worn a b h k = absurd k.rest
+show_once epoch input t u (Plan line kind) TooMany a b h k = absurd k.rest
 show_once epoch input t u (Plan line kind) OutOfMemory a b h k = absurd b
 show_once epoch input t u (Plan line kind) (Input place' fault') a b h k = absurd (plan_or_behind epoch input u (Input place' fault') line kind k h.1)
 show_once epoch input t u (Plan line kind) ReadFault a b h k = absurd b
@@ -205,6 +212,7 @@ rest_writes own before octets t (NotAJournal file at') a h k = k
 rest_writes own before octets t (PlanDiffers name) a h k = k
 rest_writes own before octets t (Full size) a h k = k
 rest_writes own before octets t Worn a h k = k
+rest_writes own before octets t TooMany a h k = k
 rest_writes own before octets t OutOfMemory a h k = absurd a
 rest_writes own before octets t (Input place fault) a h k = break_or_read own before octets t fault k.1 h.1 h.0
 rest_writes own before octets t ReadFault a h k = absurd a
@@ -222,6 +230,7 @@ show_writes epoch input t (NotAJournal file at') a h k = k.rest
 show_writes epoch input t (PlanDiffers name) a h k = k.rest
 show_writes epoch input t (Full size) a h k = k.rest
 show_writes epoch input t Worn a h k = k.rest
+show_writes epoch input t TooMany a h k = k.rest
 show_writes epoch input t OutOfMemory a h k = absurd a
 show_writes epoch input t (Input place fault) a h k = behind_writes epoch input t (Input place fault) a h k
 show_writes epoch input t ReadFault a h k = absurd a
@@ -231,14 +240,15 @@ show_writes epoch input t (Plan line kind) a h k = plan_or_behind epoch input t 
 show_break : (epoch : ℕ) (input t : List ℕ) (place : ℕ) (e : CapFault) → ShowsBehind epoch input t (Input place e) → CaptureBreaks input e
 show_break epoch input t place e h = record { plan = h.plan; n = h.n; plan_is = h.plan_is; breaks = break_at (own_prefix epoch h.plan) h.n (drop h.n input) t e h.rest.1 }
 
-show_whole : (epoch : ℕ) (input t : List ℕ) (s : Status) → IsWholeInput input → IsTold s → ShowAnswers epoch input t s → s ≡ Done
-show_whole epoch input t Done w a h = refl
+show_whole : (epoch : ℕ) (input t : List ℕ) (s : Status) → IsWholeInput input → IsTold s → ShowAnswers epoch input t s → IsRead s
+show_whole epoch input t Done w a h = tt
 show_whole epoch input t Usage w a h = absurd a
 show_whole epoch input t DiskFault w a h = absurd h.rest
 show_whole epoch input t (NotAJournal file at') w a h = absurd h.rest
 show_whole epoch input t (PlanDiffers name) w a h = absurd h.rest
 show_whole epoch input t (Full size) w a h = absurd h.rest
 show_whole epoch input t Worn w a h = absurd h.rest
+show_whole epoch input t TooMany w a h = absurd h.rest
 show_whole epoch input t OutOfMemory w a h = absurd a
 show_whole epoch input t (Input place fault) w a h = absurd (whole_or_break input fault w (show_break epoch input t place fault h))
 show_whole epoch input t ReadFault w a h = absurd a

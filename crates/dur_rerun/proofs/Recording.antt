@@ -12,14 +12,14 @@ use Rattle.dur_capture.specs.Feeding.{Feeding, Breaks}
 use Rattle.dur_capture.specs.Whole.{Feeds, CaptureWithin}
 use Rattle.dur_capture.proofs.Runs.{takes_octets, whole_is, stops_break, breaks_stay}
 use Rattle.dur_rerun.specs.declared.status.Status.{Status}
-use Rattle.dur_rerun.specs.declared.status.Status.TheVariants.{Done, Usage, OutOfMemory as Memory, Input, ReadFault, WriteFault, Plan, DiskFault, NotAJournal, PlanDiffers, Full, Worn}
+use Rattle.dur_rerun.specs.declared.status.Status.TheVariants.{Done, Usage, OutOfMemory as Memory, Input, ReadFault, WriteFault, Plan, DiskFault, NotAJournal, PlanDiffers, Full, Worn, TooMany}
 use Rattle.dur_rerun.specs.Input.Breaks.{place_at, EndsRecords}
 use Rattle.dur_rerun.specs.Input.Records.{given, Ends, BreaksOff, StopsRecords}
 use Rattle.dur_rerun.specs.Rerun.Answer.{BreaksBehind, ReadsAs}
 use Rattle.dur_rerun.specs.Rerun.Services.{EndsHandling, ended}
 use Rattle.dur_rerun.specs.Rerun.Stores.{EndsStoring}
 use Rattle.dur_rerun.proofs.Rest.{told, all_told}
-use Rattle.dur_rerun.proofs.Taking.{feeds_given, no_place}
+use Rattle.dur_rerun.proofs.Reading.{feeds_given, no_place}
 
 abbrev Some_first : ℕ → List Record → List ℕ → Type 0
 Some_first before rs octets = (f : Feeding) × Feeds before octets rs f
@@ -86,6 +86,7 @@ stopped_reading (NotAJournal file at') before known mid now octets seen rs f con
 stopped_reading (PlanDiffers name) before known mid now octets seen rs f consumed feeds ends stops = absurd ends
 stopped_reading (Full size) before known mid now octets seen rs f consumed feeds ends stops = absurd ends
 stopped_reading Worn before known mid now octets seen rs f consumed feeds ends stops = absurd ends
+stopped_reading TooMany before known mid now octets seen rs f consumed feeds ends stops = absurd ends
 stopped_reading WriteFault before known mid now octets seen rs f consumed feeds ends stops = absurd ends
 stopped_reading (Plan line kind) before known mid now octets seen rs f consumed feeds ends stops = absurd ends
 
@@ -95,6 +96,7 @@ reads_first WriteFault before octets rs ends first = first
 reads_first DiskFault before octets rs ends first = first
 reads_first (Full size) before octets rs ends first = first
 reads_first Worn before octets rs ends first = first
+reads_first TooMany before octets rs ends first = absurd ends
 reads_first ReadFault before octets rs ends first = absurd ends
 reads_first (Input place fault) before octets rs ends first = absurd ends
 reads_first Done before octets rs ends first = absurd ends
@@ -112,6 +114,7 @@ storing_ends Memory ends = tt
 storing_ends DiskFault ends = tt
 storing_ends (Full size) ends = tt
 storing_ends Worn ends = tt
+storing_ends TooMany ends = absurd ends
 storing_ends WriteFault ends = absurd ends
 storing_ends ReadFault ends = absurd ends
 storing_ends (Input place fault) ends = absurd ends

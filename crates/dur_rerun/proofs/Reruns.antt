@@ -32,7 +32,7 @@ use Rattle.dur_rerun.specs.Rerun.Crashes.{IsKept}
 use Rattle.dur_rerun.specs.Rerun.Services.{Begins, IsFoundFor, Serves, StartsFrom}
 use Rattle.dur_rerun.specs.Rerun.Stores.{IsKeeping}
 use Rattle.dur_rerun.proofs.Fitting.{has_part}
-use Rattle.dur_rerun.proofs.Lists.{lifted}
+use Rattle.dur_rerun.proofs.Opened.{lifted}
 use Rattle.dur_rerun.proofs.Rest.{told}
 use Rattle.dur_rerun.proofs.Whole.{plan_more}
 

@@ -469,6 +469,7 @@ stops_by own plan before r (status.NotAJournal file place) full = tt
 stops_by own plan before r (status.PlanDiffers name) full = tt
 stops_by own plan before r (status.Full size) full = full
 stops_by own plan before r status.Worn full = full
+stops_by own plan before r status.TooMany full = tt
 
 -- a record that was received
 pub stops_storing : {D : Type 0} (begun : Run) (log : List Event) (r : Record) (old : Service) (first : Journal D) (hub : Hub) (reply : Received) (asked : List Nack) (plan : Plan) (k : Kept) (s : Status)
@@ -497,6 +498,7 @@ stops_answering own plan before r (status.NotAJournal file place) ends = absurd 
 stops_answering own plan before r (status.PlanDiffers name) ends = absurd ends
 stops_answering own plan before r (status.Full size) ends = absurd ends
 stops_answering own plan before r status.Worn ends = absurd ends
+stops_answering own plan before r status.TooMany ends = absurd ends
 
 -- the hub of a service stays over its plan
 pub taken_over : {D : Type 0} (tells : Type 0) (r : Record) (old mid : Service) (first between : Journal D) (acks : List Ack) (asked : List Nack) (w u : World) → ServesSome old first.position

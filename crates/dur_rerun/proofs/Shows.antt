@@ -14,7 +14,7 @@ use Rattle.rtps_message.specs.declared.heard.Heard.{Heard}
 use Rattle.rtps_message.specs.Messages.{Hears}
 use Rattle.dur_rerun.specs.declared.show.printer.Printer.{Printer}
 use Rattle.dur_rerun.specs.declared.status.Status.{Status}
-use Rattle.dur_rerun.specs.declared.status.Status.TheVariants.{Done, Usage, OutOfMemory, Input, ReadFault, WriteFault, Plan, DiskFault, NotAJournal, PlanDiffers, Full, Worn}
+use Rattle.dur_rerun.specs.declared.status.Status.TheVariants.{Done, Usage, OutOfMemory, Input, ReadFault, WriteFault, Plan, DiskFault, NotAJournal, PlanDiffers, Full, Worn, TooMany}
 use Rattle.dur_rerun.specs.Command.{GoesOut}
 use Rattle.dur_rerun.specs.Saying.{IsSaid, wrote}
 use Rattle.dur_rerun.specs.Input.Breaks.{capture_status, EndsRefill}
@@ -273,6 +273,7 @@ stopped (NotAJournal file at') own before octets sent held tells first old new h
 stopped (PlanDiffers name) own before octets sent held tells first old new h ends written said = absurd ends
 stopped (Full size) own before octets sent held tells first old new h ends written said = absurd ends
 stopped Worn own before octets sent held tells first old new h ends written said = absurd ends
+stopped TooMany own before octets sent held tells first old new h ends written said = absurd ends
 stopped ReadFault own before octets sent held tells first old new h ends written said = absurd ends
 stopped WriteFault own before octets sent held tells first old new h ends written said = absurd ends
 stopped (Plan line kind) own before octets sent held tells first old new h ends written said = absurd ends
@@ -288,6 +289,7 @@ breaks_more (NotAJournal file at') f more b = absurd b
 breaks_more (PlanDiffers name) f more b = absurd b
 breaks_more (Full size) f more b = absurd b
 breaks_more Worn f more b = absurd b
+breaks_more TooMany f more b = absurd b
 breaks_more ReadFault f more b = absurd b
 breaks_more WriteFault f more b = absurd b
 breaks_more (Plan line kind) f more b = absurd b
@@ -331,6 +333,7 @@ refill_answer (NotAJournal file at') own before octets text ends r = absurd ends
 refill_answer (PlanDiffers name) own before octets text ends r = absurd ends
 refill_answer (Full size) own before octets text ends r = absurd ends
 refill_answer Worn own before octets text ends r = absurd ends
+refill_answer TooMany own before octets text ends r = absurd ends
 refill_answer WriteFault own before octets text ends r = absurd ends
 refill_answer (Input place fault) own before octets text ends r = absurd ends
 refill_answer (Plan line kind) own before octets text ends r = absurd ends

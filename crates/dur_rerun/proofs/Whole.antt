@@ -11,7 +11,7 @@ use Rattle.dur_qos.specs.Text.{PlanText, line_text}
 use Rattle.dur_rerun.specs.declared.input.plan.Opened.{Opened}
 use Rattle.dur_rerun.specs.declared.show.printer.Printer.{Printer}
 use Rattle.dur_rerun.specs.declared.status.Status.{Status}
-use Rattle.dur_rerun.specs.declared.status.Status.TheVariants.{Done, Usage, OutOfMemory, Input, ReadFault, WriteFault, Plan, DiskFault, NotAJournal, PlanDiffers, Full, Worn}
+use Rattle.dur_rerun.specs.declared.status.Status.TheVariants.{Done, Usage, OutOfMemory, Input, ReadFault, WriteFault, Plan, DiskFault, NotAJournal, PlanDiffers, Full, Worn, TooMany}
 use Rattle.dur_rerun.specs.Command.{GoesOut}
 use Rattle.dur_rerun.specs.Input.Breaks.{EndsPlan, StopsPlan}
 use Rattle.dur_rerun.specs.Input.Plan.{Opens}
@@ -58,6 +58,7 @@ shows_behind (NotAJournal file at') epoch input text h = h
 shows_behind (PlanDiffers name) epoch input text h = h
 shows_behind (Full size) epoch input text h = h
 shows_behind Worn epoch input text h = h
+shows_behind TooMany epoch input text h = h
 shows_behind OutOfMemory epoch input text h = inr h
 shows_behind (Input place fault) epoch input text h = h
 shows_behind ReadFault epoch input text h = inr h
@@ -110,6 +111,7 @@ plan_shows (NotAJournal file at') epoch input ends stops = absurd ends
 plan_shows (PlanDiffers name) epoch input ends stops = absurd ends
 plan_shows (Full size) epoch input ends stops = absurd ends
 plan_shows Worn epoch input ends stops = absurd ends
+plan_shows TooMany epoch input ends stops = absurd ends
 plan_shows WriteFault epoch input ends stops = absurd ends
 plan_shows (Input place fault) epoch input ends stops = absurd ends
 
@@ -124,6 +126,7 @@ plan_show_ends (NotAJournal file at') ends = absurd ends
 plan_show_ends (PlanDiffers name) ends = absurd ends
 plan_show_ends (Full size) ends = absurd ends
 plan_show_ends Worn ends = absurd ends
+plan_show_ends TooMany ends = absurd ends
 plan_show_ends WriteFault ends = absurd ends
 plan_show_ends (Input place fault) ends = absurd ends
 
@@ -139,4 +142,5 @@ rest_show_ends (NotAJournal file at') ends = absurd ends
 rest_show_ends (PlanDiffers name) ends = absurd ends
 rest_show_ends (Full size) ends = absurd ends
 rest_show_ends Worn ends = absurd ends
+rest_show_ends TooMany ends = absurd ends
 rest_show_ends (Plan line k) ends = absurd ends

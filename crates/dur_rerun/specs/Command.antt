@@ -6,7 +6,7 @@ use Rattle.std.specs.Io.KnownBytes.{IsAtEnd}
 use Rattle.dur_outside.specs.World.{Image}
 use Rattle.dur_outside.specs.Causes.{Rose}
 use Rattle.dur_rerun.specs.declared.status.Status.{Status}
-use Rattle.dur_rerun.specs.declared.status.Status.TheVariants.{Done, Usage, OutOfMemory, Input, ReadFault, WriteFault, DiskFault, Plan, NotAJournal, PlanDiffers, Full, Worn}
+use Rattle.dur_rerun.specs.declared.status.Status.TheVariants.{Done, Usage, OutOfMemory, Input, ReadFault, WriteFault, DiskFault, Plan, NotAJournal, PlanDiffers, Full, Worn, TooMany}
 use Rattle.dur_rerun.specs.Input.Whole.{IsWholeInput}
 use Rattle.dur_rerun.specs.Saying.{IsSaid, wrote}
 
@@ -24,11 +24,18 @@ IsTold (NotAJournal file place) = Unit {0}
 IsTold (PlanDiffers name) = Unit {0}
 IsTold (Full size) = Unit {0}
 IsTold Worn = Unit {0}
+IsTold TooMany = Unit {0}
 IsTold Usage = ⊥
 IsTold OutOfMemory = ⊥
 IsTold ReadFault = ⊥
 IsTold WriteFault = ⊥
 IsTold DiskFault = ⊥
+
+-- the input was read to its end, and no fault of it was found
+abbrev pub IsRead : Status → Type 0
+IsRead Done = Unit {0}
+IsRead TooMany = Unit {0}
+IsRead other = ⊥
 
 -- what became of a run that ends early by an error
 abbrev pub status_of : Result (Unit {0}) Status → Status
@@ -39,8 +46,8 @@ status_of (Err status) = status
 pub record IsFunction (answers : List ℕ → List ℕ → Status → Type 0) : Type 0 where
   -- one text and one status that says what it calls for
   pub once : (input t u : List ℕ) (s r : Status) → IsTold s → IsTold r → answers input t s → answers input u r → (t ≡ u) × (s ≡ r)
-  -- that of a whole input is the status 0
-  pub whole : (input t : List ℕ) (s : Status) → IsWholeInput input → IsTold s → answers input t s → s ≡ Done
+  -- with that of a whole input it was read to its end
+  pub whole : (input t : List ℕ) (s : Status) → IsWholeInput input → IsTold s → answers input t s → IsRead s
   -- a write fails only where there is something to write
   pub writes : (input t : List ℕ) (s : Status) → IsTold s → answers input t WriteFault → answers input [] s → ⊥
   -- a command line is read before any command
@@ -64,7 +71,7 @@ pub record Arrives (gives : List ℕ → List ℕ → Status → Type 0) (input 
   -- no read and no write failed
   pub answer : (text : List ℕ) (a : Status) → IsTold a → gives input text a → (Rose reads reads_now → ⊥) → (Rose writes writes_now → ⊥) → (s ≡ a) ⊎ (s ≡ OutOfMemory)
   -- the same, and the input is the text of a plan and a capture
-  pub whole : IsWholeInput input → (Rose reads reads_now → ⊥) → (Rose writes writes_now → ⊥) → (s ≡ Done) ⊎ (s ≡ OutOfMemory)
+  pub whole : IsWholeInput input → (Rose reads reads_now → ⊥) → (Rose writes writes_now → ⊥) → IsRead s ⊎ (s ≡ OutOfMemory)
   -- no read failed, and there is nothing to write
   pub silent : (a : Status) → IsTold a → gives input [] a → (Rose reads reads_now → ⊥) → (s ≡ a) ⊎ (s ≡ OutOfMemory)
 

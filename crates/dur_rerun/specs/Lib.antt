@@ -4,6 +4,7 @@ pub mod Command
 pub mod Files
 pub mod Input
 pub mod Late
+pub mod Learn
 pub mod List
 pub mod Rerun
 pub mod Saying

@@ -38,6 +38,8 @@ pub enum Status {
     Full(u64),
     /// No generation is left for the journal's next file.
     Worn,
+    /// A plan that is learnt has more writers or readers than a plan may have.
+    TooMany,
 }
 
 impl From<OutOfMemory> for Status {

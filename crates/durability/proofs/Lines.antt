@@ -20,7 +20,7 @@ use Rattle.clap.proofs.WalkLemmas.{both, first_value-rows}
 use Rattle.durability.specs.declared.words.WordsFault.TheVariants.{Usage, OutOfMemory}
 use Rattle.durability.specs.Options.{Given, Spells, IsNew, AreNew, IsPlain, IsOptions, value_of, IsNumber, IsHex, IsText, IsCount}
 use Rattle.durability.specs.Commands.{command_of, list_names, show_names, dir_names, late_names, HasOptions, AreNames, words_fault}
-use Rattle.durability.specs.CommandLine.{IsList, IsShow, HasDir, IsOver, IsLate}
+use Rattle.durability.specs.CommandLine.{IsAt, IsShow, HasDir, IsOver, IsLate}
 use Rattle.durability.proofs.Spelling.{eq_of, eq_same, eq_not, bool_no, not_dashes, not_nil}
 use Rattle.durability.proofs.Rules.{knows, row}
 use Rattle.durability.proofs.Walks.{rows_of, Follows, Known, Plain, NoDashes, NamesOk, dashed_some}
@@ -193,9 +193,9 @@ are_options names words m h each = record {
   plain = plain_all names h.given (λ n k v is. named (HasPlain h.given) names each n k v is) [] h.given refl h.once h.known;
 }
 
-pub list_is : (words : List Text) (m : ArgMatches) (at epoch : ℕ) (a e : Option Text) → (h : HasOptions list_names words m) → a ≡ first_value (found_of m) (codes "at") → e ≡ first_value (found_of m) (codes "epoch") → IsNumber a at → at < 2 ^ 64 → IsNumber e epoch → epoch < 2 ^ 32
-    → IsList (codes "list" ∷ words) at epoch
-list_is words m at epoch a e h ais eis an al en el =
+pub list_is : (word : Text) (words : List Text) (m : ArgMatches) (at epoch : ℕ) (a e : Option Text) → (h : HasOptions list_names words m) → a ≡ first_value (found_of m) (codes "at") → e ≡ first_value (found_of m) (codes "epoch") → IsNumber a at → at < 2 ^ 64 → IsNumber e epoch → epoch < 2 ^ 32
+    → IsAt word (word ∷ words) at epoch
+list_is word words m at epoch a e h ais eis an al en el =
     let ats : IsNumber (value_of (codes "at") h.given) at = subst (λ (o : Option Text). IsNumber o at) (ais ∙ h.values (codes "at")) an in
     let es : IsNumber (value_of (codes "epoch") h.given) epoch = subst (λ (o : Option Text). IsNumber o epoch) (eis ∙ h.values (codes "epoch")) en in
     record {

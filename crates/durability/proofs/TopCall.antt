@@ -36,6 +36,7 @@ of_late words a is first turns h = subst (λ (x : Line). IsOfLate x first turns)
 -- words that ask for none are a line of `durability`
 pub not_late : (words : List (List ℕ)) (a : Line) → IsLine words a → ((first : Late) (turns : ℕ) → AsksFor words first turns → ⊥) → IsOwn a
 not_late words (line.List at epoch) is never = tt
+not_late words (line.Learn at epoch) is never = tt
 not_late words (line.Show epoch) is never = tt
 not_late words (line.Rerun dir) is never = tt
 not_late words (line.Check dir) is never = tt
@@ -47,6 +48,7 @@ of_rerun P words a is holds l h = each_line (λ (x : Line). IsRerun x → P) wor
 
 pub usage_never : (l : Line) → ends_of l Usage → ⊥
 usage_never (line.List at epoch) h = h
+usage_never (line.Learn at epoch) h = h
 usage_never (line.Show epoch) h = h
 usage_never (line.Rerun dir) h = h
 usage_never (line.Check dir) h = h
@@ -55,6 +57,7 @@ usage_never (line.Late reader prefix writer peer turns) h = h
 -- want of memory before the command began
 memory_ends : (l : Line) → IsOfInput l → ends_of l OutOfMemory
 memory_ends (line.List at epoch) own = tt
+memory_ends (line.Learn at epoch) own = tt
 memory_ends (line.Show epoch) own = tt
 memory_ends (line.Rerun dir) own = absurd own
 memory_ends (line.Check dir) own = absurd own
@@ -62,6 +65,7 @@ memory_ends (line.Late reader prefix writer peer turns) own = absurd own
 
 memory_answers : (l : Line) → IsOfInput l → (input : List ℕ) → answers_of l input [] OutOfMemory
 memory_answers (line.List at epoch) own input = refl
+memory_answers (line.Learn at epoch) own input = refl
 memory_answers (line.Show epoch) own input = inl refl
 memory_answers (line.Rerun dir) own input = absurd own
 memory_answers (line.Check dir) own input = absurd own

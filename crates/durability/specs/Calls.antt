@@ -6,6 +6,7 @@ use Rattle.dur_rerun.specs.declared.status.Status.{Status}
 use Rattle.dur_rerun.specs.Command.{GoesOut}
 use Rattle.dur_rerun.specs.Check.Answer.{CheckAnswers, HasCheckReason, IsComplete}
 use Rattle.dur_rerun.specs.Input.Whole.{IsWholeInput}
+use Rattle.dur_rerun.specs.Learn.Answer.{LearnAnswers, LearnEnds}
 use Rattle.dur_rerun.specs.List.Answer.{ListAnswers, ListEnds}
 use Rattle.dur_rerun.specs.Rerun.Answer.{Reruns, HasCauses, NoneRose, IsComplete as IsRerunComplete}
 use Rattle.dur_rerun.specs.Show.Answer.{ShowAnswers, ShowEnds}
@@ -19,6 +20,7 @@ use Rattle.durability.specs.CommandLine.{IsLine}
 -- each line but `late` is one of its own
 abbrev pub IsOwn : Line → Type 0
 IsOwn (line.List at epoch) = Unit {0}
+IsOwn (line.Learn at epoch) = Unit {0}
 IsOwn (line.Show epoch) = Unit {0}
 IsOwn (line.Rerun dir) = Unit {0}
 IsOwn (line.Check dir) = Unit {0}
@@ -33,6 +35,7 @@ IsOwnLine words l = IsLine words l × IsOwn l
 -- these do, and call no file
 abbrev pub IsOfInput : Line → Type 0
 IsOfInput (line.List at epoch) = Unit {0}
+IsOfInput (line.Learn at epoch) = Unit {0}
 IsOfInput (line.Show epoch) = Unit {0}
 IsOfInput (line.Rerun dir) = ⊥
 IsOfInput (line.Check dir) = ⊥
@@ -51,6 +54,7 @@ no_ends status = ⊥
 -- what it answers
 abbrev pub answers_of : Line → List ℕ → List ℕ → Status → Type 0
 answers_of (line.List at epoch) = ListAnswers at epoch
+answers_of (line.Learn at epoch) = LearnAnswers at epoch
 answers_of (line.Show epoch) = ShowAnswers epoch
 answers_of (line.Rerun dir) = no_answers
 answers_of (line.Check dir) = no_answers
@@ -59,6 +63,7 @@ answers_of (line.Late reader prefix writer peer turns) = no_answers
 -- the statuses with which it ends
 abbrev pub ends_of : Line → Status → Type 0
 ends_of (line.List at epoch) = ListEnds
+ends_of (line.Learn at epoch) = LearnEnds
 ends_of (line.Show epoch) = ShowEnds
 ends_of (line.Rerun dir) = no_ends
 ends_of (line.Check dir) = no_ends
@@ -68,6 +73,7 @@ ends_of (line.Late reader prefix writer peer turns) = no_ends
 
 abbrev pub CallsFiles : Line → Type 0
 CallsFiles (line.List at epoch) = ⊥
+CallsFiles (line.Learn at epoch) = ⊥
 CallsFiles (line.Show epoch) = ⊥
 CallsFiles (line.Rerun dir) = Unit {0}
 CallsFiles (line.Check dir) = Unit {0}
@@ -82,6 +88,7 @@ IsFileLine words l = IsLine words l × CallsFiles l
 -- this one does
 abbrev pub IsCheck : Line → Type 0
 IsCheck (line.List at epoch) = ⊥
+IsCheck (line.Learn at epoch) = ⊥
 IsCheck (line.Show epoch) = ⊥
 IsCheck (line.Rerun dir) = ⊥
 IsCheck (line.Check dir) = Unit {0}
@@ -105,6 +112,7 @@ pub record RunsCheck (tells : Type 0) (s : Status) (old new : Image) (disks disk
 -- this one does
 abbrev pub IsRerun : Line → Type 0
 IsRerun (line.List at epoch) = ⊥
+IsRerun (line.Learn at epoch) = ⊥
 IsRerun (line.Show epoch) = ⊥
 IsRerun (line.Rerun dir) = Unit {0}
 IsRerun (line.Check dir) = ⊥
@@ -131,6 +139,7 @@ abbrev pub IsOfLate : Line → Late → ℕ → Type 0
 IsOfLate (line.Late reader prefix writer peer turns) first most =
     (first ≡ fresh reader prefix writer) × (most ≡ turns)
 IsOfLate (line.List at epoch) first most = ⊥
+IsOfLate (line.Learn at epoch) first most = ⊥
 IsOfLate (line.Show epoch) first most = ⊥
 IsOfLate (line.Rerun dir) first most = ⊥
 IsOfLate (line.Check dir) first most = ⊥

@@ -5,11 +5,11 @@ use Rattle.durability.specs.declared.words.Line.TheVariants as line
 use Rattle.durability.specs.Options.{Given, IsOptions, IsNumber, IsHex, IsText, IsCount, value_of}
 use Rattle.durability.specs.Commands.{list_names, show_names, dir_names, late_names}
 
--- the word `list` and its options
-pub record IsList (words : List (List ℕ)) (at epoch : ℕ) : Type 0 where
+-- a word and the options `--at` and `--epoch`, as `list` and `learn` have them
+pub record IsAt (word : List ℕ) (words : List (List ℕ)) (at epoch : ℕ) : Type 0 where
   pub rest : List (List ℕ)
   pub given : List Given
-  pub words_are : words ≡ codes "list" ∷ rest
+  pub words_are : words ≡ word ∷ rest
   pub options : IsOptions list_names rest given
   pub at_is : IsNumber (value_of (codes "at") given) at × (at < 2 ^ 64)
   pub epoch_is : IsNumber (value_of (codes "epoch") given) epoch × (epoch < 2 ^ 32)
@@ -48,7 +48,8 @@ pub record IsLate (words : List (List ℕ)) (reader prefix writer peer : List �
 
 -- the words after the program's name are this command line
 abbrev pub IsLine : List (List ℕ) → Line → Type 0
-IsLine words (line.List at epoch) = IsList words at epoch
+IsLine words (line.List at epoch) = IsAt (codes "list") words at epoch
+IsLine words (line.Learn at epoch) = IsAt (codes "learn") words at epoch
 IsLine words (line.Show epoch) = IsShow words epoch
 IsLine words (line.Rerun dir) = IsOver (codes "rerun") words dir
 IsLine words (line.Check dir) = IsOver (codes "check") words dir

@@ -2,7 +2,7 @@
 use Rattle.std.specs.Prelude.{ℕ, List, [], ◌++◌, codes}
 use Rattle.std.specs.Fmt.{decimal}
 use Rattle.dur_rerun.specs.declared.status.Status.{Status}
-use Rattle.dur_rerun.specs.declared.status.Status.TheVariants.{Done, Usage, OutOfMemory, Input, ReadFault, WriteFault, DiskFault, Plan, NotAJournal, PlanDiffers, Full, Worn}
+use Rattle.dur_rerun.specs.declared.status.Status.TheVariants.{Done, Usage, OutOfMemory, Input, ReadFault, WriteFault, DiskFault, Plan, NotAJournal, PlanDiffers, Full, Worn, TooMany}
 use Rattle.dur_rerun.specs.Files.{file_digit}
 use Rattle.dur_outside.specs.declared.values.FileId.{FileId}
 use Rattle.dur_capture.specs.declared.fault.CapFault.{CapFault}
@@ -23,6 +23,7 @@ number_of (NotAJournal file place) = 9
 number_of (PlanDiffers name) = 9
 number_of (Full size) = 10
 number_of Worn = 10
+number_of TooMany = 15
 
 abbrev pub fault_name : CapFault → List ℕ
 fault_name (cap.LongDatagram place) = codes "LongDatagram"
@@ -68,3 +69,4 @@ fault_line (NotAJournal file place) = journal_line file place
 fault_line (PlanDiffers name) = differs_line name
 fault_line (Full size) = full_line size
 fault_line Worn = codes "durability: worn\n"
+fault_line TooMany = codes "durability: too many\n"

@@ -42,9 +42,11 @@ fn run<L: Link, K: Sink>(alloc: Global, line: Line, link: &mut L, out: &mut K) -
             turns,
             ..
         } => take_replay(alloc, reader, prefix, writer, turns, link, out),
-        Line::List { .. } | Line::Show { .. } | Line::Rerun { .. } | Line::Check { .. } => {
-            LateStatus::Usage
-        }
+        Line::List { .. }
+        | Line::Learn { .. }
+        | Line::Show { .. }
+        | Line::Rerun { .. }
+        | Line::Check { .. } => LateStatus::Usage,
     }
 }
 

@@ -14,6 +14,7 @@ use crate::status::say_fault;
 use crate::words::{Line, WordsFault, read_words};
 use dur_outside::{Rig, Sink, Source};
 use dur_rerun::check::check;
+use dur_rerun::learn::learn;
 use dur_rerun::list::list;
 use dur_rerun::rerun::rerun;
 use dur_rerun::show::show;
@@ -43,6 +44,7 @@ fn run<S: Source, R: Rig>(alloc: Global, line: Line, input: &mut S, rig: R) -> R
 {
     match line {
         Line::List { at, epoch } => list(alloc, at, epoch, input, rig),
+        Line::Learn { at, epoch } => learn(alloc, at, epoch, input, rig),
         Line::Show { epoch } => show(alloc, epoch, input, rig),
         Line::Rerun { .. } => rerun(alloc, input, rig),
         Line::Check { .. } => check(alloc, rig),
@@ -67,7 +69,7 @@ fn told<R: Rig, E: Sink>(ran: Ran<R>, err: &mut E) -> Ran<R>
 /// Does what the words after the program's name ask for, and hands the rig back.
 ///
 /// `list` reads a plan and a capture, and prints what the history that they admit entitles a late
-/// reader to. `show` prints a line for each record of the capture. `rerun` handles the records one after the other over
+/// reader to. `learn` prints the plan that the discovery traffic of the capture teaches. `show` prints a line for each record of the capture. `rerun` handles the records one after the other over
 /// the journal of the rig's two files: it stores what they bring to persistent topics, and writes out what they call for.
 /// `check` reads no input: it prints what the two files of the rig are, and what a journal over them would keep. Other
 /// words are `Usage`; those of `late` are, too, which is a call of its own. The status says what became of it, and a
@@ -85,7 +87,7 @@ pub fn durability<S: Source, R: Rig, E: Sink>(
     ensures none { ((line : Line) → IsOwnLine (map string_bytes words.now) line → ⊥)
         → (result.status ≡ Status.Usage) ⊎ (result.status ≡ Status.OutOfMemory) }
     ensures untouched { result.status ≡ Status.Usage → (input.new ≡ input.old) × (result.rig ≡ rig) }
-    // They are `list` or `show`.
+    // They are `list`, `learn` or `show`.
     ensures reason { (line : Line) → IsInputLine (map string_bytes words.now) line
         → HasReason (ends_of line) result.status (S.left input.new)
         (S.faults input.old) (S.faults input.new) (R.sink_faults rig) (R.sink_faults result.rig) }

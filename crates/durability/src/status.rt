@@ -28,6 +28,7 @@ pub fn number(status: &Status) -> u8
         Status::Plan(_, _) => 8,
         Status::NotAJournal(_, _) | Status::PlanDiffers(_) => 9,
         Status::Full(_) | Status::Worn => 10,
+        Status::TooMany => 15,
     }
 }
 
@@ -160,6 +161,7 @@ pub fn say_fault<E: Sink>(err: &mut E, status: &Status)
         Status::WriteFault => say_line(err, b"durability: write fault\n"),
         Status::DiskFault => say_line(err, b"durability: disk fault\n"),
         Status::Worn => say_line(err, b"durability: worn\n"),
+        Status::TooMany => say_line(err, b"durability: too many\n"),
         Status::Input(place, fault) => say_line(err, &input_fault(*place, *fault)),
         Status::Plan(line, kind) => say_line(err, &plan_fault(*line, *kind)),
         Status::NotAJournal(file, place) => say_line(err, &journal_fault(*file, *place)),

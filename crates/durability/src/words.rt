@@ -12,7 +12,7 @@ mod values;
 
 use crate::argument::Argument;
 use clap::error::ErrorKind;
-use commands::{dir_command, late_command, list_command, options, show_command};
+use commands::{dir_command, late_command, learn_command, list_command, options, show_command};
 use dur_base::{EntityId, Guid, Ticks};
 use std::alloc::{AllocError, Global};
 use values::{argument_of, count_of, number_of, octets_of};
@@ -24,6 +24,14 @@ pub enum Line {
     List {
         /// The moment of the listing, in ticks of 2^-32 s. The greatest moment of the records counts
         /// where it is later.
+        at: Ticks,
+        /// The epoch of the service.
+        epoch: u32,
+    },
+    /// The plan that the discovery traffic of a capture teaches.
+    Learn {
+        /// The moment of the plan, in ticks of 2^-32 s. The greatest moment of the records counts where
+        /// it is later.
         at: Ticks,
         /// The epoch of the service.
         epoch: u32,
@@ -102,6 +110,22 @@ fn list_line(alloc: Global, words: &[String]) -> Result<Line, WordsFault>
     })
 }
 
+/// The line of `learn` with these words behind it.
+fn learn_line(alloc: Global, words: &[String]) -> Result<Line, WordsFault>
+    ensures line { IfOk result (λ line. IsLine (codes "learn" ∷ map string_bytes words.now) line) }
+    ensures usage { result ≡ Err WordsFault.Usage
+        → (line : Asked) → IsLine (codes "learn" ∷ map string_bytes words.now) line → ⊥ }
+{
+    let command = learn_command(alloc)?;
+    let given = options(command, words)?;
+    let at = number_of(given.get_str("at"), u64::MAX)?;
+    let epoch = number_of(given.get_str("epoch"), u32::MAX as u64)?;
+    Ok(Line::Learn {
+        at: Ticks(at),
+        epoch: epoch as u32,
+    })
+}
+
 /// The line of `show` with these words behind it.
 fn show_line(alloc: Global, words: &[String]) -> Result<Line, WordsFault>
     ensures line { IfOk result (λ line. IsLine (codes "show" ∷ map string_bytes words.now) line) }
@@ -172,6 +196,12 @@ fn is_list_word(word: &String) -> bool
     word.as_str() == "list"
 }
 
+fn is_learn_word(word: &String) -> bool
+    ensures { IsTrue result ↔ (string_bytes word.now ≡ codes "learn") }
+{
+    word.as_str() == "learn"
+}
+
 fn is_show_word(word: &String) -> bool
     ensures { IsTrue result ↔ (string_bytes word.now ≡ codes "show") }
 {
@@ -206,6 +236,8 @@ pub fn read_words(alloc: Global, words: &[String]) -> Result<Line, WordsFault>
     match words {
         [word, rest @ ..] => if is_list_word(word) {
             list_line(alloc, rest)
+        } else if is_learn_word(word) {
+            learn_line(alloc, rest)
         } else if is_show_word(word) {
             show_line(alloc, rest)
         } else if is_rerun_word(word) {

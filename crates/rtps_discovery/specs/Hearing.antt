@@ -77,7 +77,7 @@ pub record IsLearntBy (plan : Plan) (d : Directory) (now : ℕ) (learnt : Plan) 
   pub good : (facts : List HeardFact) → GoodPlan plan → Heard plan d facts → GoodPlan learnt
   pub within : PassesLimit learnt → ⊥
 
--- the plan that would be learnt passes a limit
+-- the plan that is learnt from all facts that were heard passes a limit
 abbrev pub WouldPass : Plan → Directory → ℕ → Type 0
 WouldPass plan d now =
-    (facts : List HeardFact) (q : Plan) → Heard plan d facts → IsLearnt plan facts now q → PassesLimit q
+    (facts : List HeardFact) → Heard plan d facts → (learnt : Plan) × IsLearnt plan facts now learnt × PassesLimit learnt

@@ -74,3 +74,8 @@ abbrev pub EndsRefill : Status → Type 0
 EndsRefill ReadFault = Unit {0}
 EndsRefill OutOfMemory = Unit {0}
 EndsRefill other = ⊥
+
+-- where the status is that of a break, the octets first break off with its fault
+abbrev pub StopsRest : ℕ → List ℕ → Status → Type 0
+StopsRest before octets (Input place fault) = BreaksAt before octets true fault
+StopsRest before octets other = Unit {0}

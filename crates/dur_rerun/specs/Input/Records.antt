@@ -1,5 +1,5 @@
 -- What a feed hands out with a source behind it.
-use Rattle.std.specs.Prelude.{◌≡◌, ℕ, ◌+◌, ◌<◌, ◌≤◌, Bool, true, false, List, [], ◌++◌, length}
+use Rattle.std.specs.Prelude.{◌≡◌, ℕ, ◌+◌, ◌<◌, ◌≤◌, max, Bool, true, false, List, [], ◌∷◌, ◌++◌, length}
 use Rattle.std.specs.declared.option.Option.{Option}
 use Rattle.std.specs.Io.KnownBytes.{Consumes, IsAtEnd}
 use Rattle.dur_capture.specs.declared.record.Record.{Record}
@@ -52,3 +52,8 @@ pub record BreaksOff (known now : Option (List ℕ)) (old : Feeding) (fault : Ca
 abbrev pub StopsRecords : Option (List ℕ) → Option (List ℕ) → Feeding → Status → Type 0
 StopsRecords known now old (Input place fault) = BreaksOff known now old fault
 StopsRecords known now old other = Unit {0}
+
+-- the greatest moment of records, or 0 where there is none
+abbrev pub latest : List Record → ℕ
+latest [] = 0
+latest (r ∷ rs) = max r.moment (latest rs)

@@ -12,7 +12,8 @@ use Rattle.dur_rerun.specs.declared.status.Status.TheVariants.{Done, OutOfMemory
 use Rattle.dur_rerun.specs.Admission.{Admits}
 use Rattle.dur_rerun.specs.Input.Breaks.{place_at, PlanBreaks, CaptureBreaks}
 use Rattle.dur_rerun.specs.Input.Prefix.{own_prefix}
-use Rattle.dur_rerun.specs.List.Listing.{latest, list_text}
+use Rattle.dur_rerun.specs.Input.Records.{latest}
+use Rattle.dur_rerun.specs.List.Listing.{list_text}
 
 -- The input is the text of a plan and then a capture. Its records admit a history from the blank view of the plan, and the
 -- text is what that entitles a late reader to in each topic, at the later of a moment and the greatest one of the records.

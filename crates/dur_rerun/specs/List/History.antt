@@ -1,13 +1,11 @@
 -- What the records of a capture bring to a hub that has heard nothing.
-use Rattle.std.specs.Prelude.{ℕ, true, List, []}
+use Rattle.std.specs.Prelude.{ℕ, List, []}
 use Rattle.dur_capture.specs.declared.record.Record.{Record}
-use Rattle.dur_capture.specs.Whole.{CaptureWithin, BreaksAt}
+use Rattle.dur_capture.specs.Whole.{CaptureWithin}
 use Rattle.dur_hub.specs.declared.event.Event.{Event}
 use Rattle.dur_hub.specs.declared.hub.Hub.{Hub}
 use Rattle.dur_hub.specs.Runs.{Run}
 use Rattle.dur_hub.specs.Hubs.{Stands}
-use Rattle.dur_rerun.specs.declared.status.Status.{Status}
-use Rattle.dur_rerun.specs.declared.status.Status.TheVariants.{Input}
 use Rattle.dur_rerun.specs.Admission.{BringAll}
 
 -- the octets are records and no more, and the hub was called for each of them
@@ -17,8 +15,3 @@ pub record TakesWhole (own : List ℕ) (before : ℕ) (octets : List ℕ) (old n
   pub calls : List Event
   pub brings : BringAll own records calls
   pub adds : (start : Run) → Stands start [] old → Stands start calls new
-
--- where the status is that of a break, the octets first break off with its fault
-abbrev pub StopsRest : ℕ → List ℕ → Status → Type 0
-StopsRest before octets (Input place fault) = BreaksAt before octets true fault
-StopsRest before octets other = Unit {0}

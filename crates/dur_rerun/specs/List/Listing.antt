@@ -10,11 +10,6 @@ use Rattle.dur_hub.specs.Legal.{run_after}
 use Rattle.dur_hub.specs.Hubs.{Stands}
 use Rattle.dur_rerun.specs.List.Line.{topic_text}
 
--- the greatest moment of records, or 0 where there is none
-abbrev pub latest : List Record → ℕ
-latest [] = 0
-latest (r ∷ rs) = max r.moment (latest rs)
-
 -- the lines of what is entitled at a moment in topics, of which the first has that place in the plan
 abbrev pub lines_from : Run → ℕ → ℕ → List Topic → List ℕ
 lines_from run now place [] = []

@@ -3,8 +3,8 @@
 ghost use Rattle.std.specs.Prelude.{◌≡◌, ◌≤◌, ◌^◌, ◌++◌, None, OnOk, IfErr, IfSome};
 ghost use Rattle.std.specs.Io.KnownBytes.{IsAtEnd};
 ghost use Rattle.dur_outside.specs.Causes.{Rose};
-ghost use Rattle.dur_rerun.specs.Input.Breaks.{EndsRecords};
-ghost use Rattle.dur_rerun.specs.List.History.{TakesWhole, StopsRest};
+ghost use Rattle.dur_rerun.specs.Input.Breaks.{EndsRecords, StopsRest};
+ghost use Rattle.dur_rerun.specs.List.History.{TakesWhole};
 
 use crate::Status;
 use crate::admit::admit;

@@ -43,6 +43,15 @@ pub fn list_command<'a>(alloc: Global) -> Result<Command<'a>, AllocError>
     with_option(alloc, command, "epoch")
 }
 
+/// The command `learn`.
+pub fn learn_command<'a>(alloc: Global) -> Result<Command<'a>, AllocError>
+    ensures { IfOk result (λ c. app_of c ≡ command_of (codes "learn") list_names) }
+{
+    let command = command(alloc, "learn");
+    let command = with_option(alloc, command, "at")?;
+    with_option(alloc, command, "epoch")
+}
+
 /// The command `show`.
 pub fn show_command<'a>(alloc: Global) -> Result<Command<'a>, AllocError>
     ensures { IfOk result (λ c. app_of c ≡ command_of (codes "show") show_names) }

@@ -1,7 +1,8 @@
 use Rattle.std.proofs.Common.{ap, ◌∙◌, arith}
 use Rattle.std.proofs.lemmas.Result.{err_from_is_err_and}
 use Rattle.dur_qos.specs.declared.plan.Plan.{Plan}
-use Rattle.dur_rerun.proofs.Lists.{lists, rest_stops, plan_good, few_topics}
+use Rattle.dur_rerun.proofs.Lists.{lists, rest_stops, few_topics}
+use Rattle.dur_rerun.proofs.Opened.{plan_good}
 use Rattle.dur_rerun.proofs.list.listing_of.Goals as goal
 
 pub open-requires : goal.open-requires

@@ -1,7 +1,7 @@
 use Rattle.std.proofs.Common.{inl, inr, refl, subst, arith}
 use Rattle.dur_rerun.specs.Input.Breaks.{EndsPlan}
 use Rattle.dur_rerun.proofs.Completes.{complete_so}
-use Rattle.dur_rerun.proofs.Lists.{plan_good}
+use Rattle.dur_rerun.proofs.Opened.{plan_good}
 use Rattle.dur_rerun.proofs.Reruns.{plan_behind}
 use Rattle.dur_rerun.proofs.rerun.rerun.Goals as goal
 

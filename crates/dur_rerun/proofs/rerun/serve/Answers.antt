@@ -5,7 +5,7 @@ use Rattle.dur_rerun.specs.Rerun.Answer.{RunsOver}
 use Rattle.dur_rerun.specs.Input.Prefix.{own_prefix}
 use Rattle.dur_rerun.proofs.Recording.{first_told}
 use Rattle.dur_rerun.proofs.Reruns.{begins_so, starts_so, none_run, serves_so}
-use Rattle.dur_rerun.proofs.Taking.{feeds_first}
+use Rattle.dur_rerun.proofs.Reading.{feeds_first}
 use Rattle.dur_rerun.specs.declared.status.Status.TheVariants.{Done, OutOfMemory}
 use Rattle.dur_rerun.proofs.rerun.serve.Goals as goal
 

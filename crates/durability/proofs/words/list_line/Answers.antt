@@ -22,4 +22,4 @@ pub returns-clause-line : goal.returns-clause-line
 returns-clause-line c =
     let a = c.in_ok-at.ensures.ok in
     let e = c.in_ok-epoch.ensures.ok in
-    list_is _ c.in_ok-given.given _ _ _ _ (c.in_ok-given.ensures.ok (codes "list") list_names c.in_ok-command.ensures refl list_are) c.get_str.ensures c.get_str-2.ensures a.0 (omega (arith, a.1)) e.0 (omega (arith, e.1))
+    list_is (codes "list") _ c.in_ok-given.given _ _ _ _ (c.in_ok-given.ensures.ok (codes "list") list_names c.in_ok-command.ensures refl list_are) c.get_str.ensures c.get_str-2.ensures a.0 (omega (arith, a.1)) e.0 (omega (arith, e.1))

@@ -2,7 +2,8 @@ use Rattle.std.proofs.Common.{arith, [], ◌∷◌, ◌++◌}
 use Rattle.std.proofs.lemmas.Result.{err_from_is_err_and}
 use Rattle.std.proofs.KnownBytes.{Consumes-trans, Consumes-nil}
 use Rattle.dur_rerun.proofs.Admitting.{bring_more}
-use Rattle.dur_rerun.proofs.Taking.{feeds_first, feeds_next, adds_more, stops_rest}
+use Rattle.dur_rerun.proofs.Reading.{feeds_first, feeds_next, stops_rest}
+use Rattle.dur_rerun.proofs.Taking.{adds_more}
 use Rattle.dur_rerun.proofs.list.history.admit_rest.Goals as goal
 
 pub records-init : goal.records-init

@@ -4,7 +4,7 @@ use Rattle.dur_rerun.specs.Rerun.Answer.{RunsOver}
 use Rattle.dur_rerun.proofs.Courses.{answered_first, answered_next, serves_on, ready_on, plan_on, ends_reading, ends_handling, ends_last}
 use Rattle.dur_rerun.proofs.Recording.{first_told, whole_told, ended_told, stopped_reading, stopped_handling, last_reading}
 use Rattle.dur_rerun.proofs.Serving.{may_store}
-use Rattle.dur_rerun.proofs.Taking.{feeds_first, feeds_next}
+use Rattle.dur_rerun.proofs.Reading.{feeds_first, feeds_next}
 use Rattle.dur_rerun.proofs.rerun.course.answer_all.Goals as goal
 
 pub records-init : goal.records-init

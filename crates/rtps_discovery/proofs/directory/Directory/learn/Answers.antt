@@ -23,7 +23,7 @@ returns-clause-ok c =
 
 pub returns-then-passes_limit-clause-too_many : goal.returns-then-passes_limit-clause-too_many
 unfolding Heard
-returns-then-passes_limit-clause-too_many c e facts q heard is =
+returns-then-passes_limit-clause-too_many c e facts heard =
     let p : Plan = record { prefix = c.args.plan.now.prefix; topics = c.args.plan.now.topics; writers = c.in_ok-writers.writers; readers = c.in_ok-readers.readers } in
     let learnt : IsLearnt c.args.plan.now facts c.args.moment p = record {
       told = heard.0;
@@ -31,4 +31,4 @@ returns-then-passes_limit-clause-too_many c e facts q heard is =
       follows = follows c.args.plan.now c.args.self.now heard.0 c.args.moment p heard.3 heard.2 c.in_ok-writers.ensures.ordered refl refl c.in_ok-writers.ensures.lines c.in_ok-readers.ensures.lines;
     } in
     let many : PassesLimit p = search rules in
-    subst PassesLimit (learnt_once c.args.plan.now facts c.args.moment p q learnt is) many
+    (p, learnt, many)
