@@ -1,8 +1,8 @@
 -- Batch after batch.
-use Rattle.std.proofs.Common.{◌≡◌, ℕ, ◌+◌, ◌-◌, ◌<◌, ◌^◌, List, [], ◌++◌, length, take, refl, sym, ap, subst, ◌∙◌, Bool, true, false, cond, arith, append-nil, append_assoc}
+use Rattle.std.proofs.Common.{zero, suc, ◌≤◌, ◌≡◌, ℕ, ◌+◌, ◌-◌, ◌<◌, ◌^◌, List, [], ◌++◌, length, take, refl, sym, ap, subst, ◌∙◌, Bool, true, false, cond, arith, append-nil, append_assoc}
 use Rattle.std.specs.Prelude.{nat_lt}
 use Rattle.std.proofs.lemmas.List.{length-take, length-drop}
-use Rattle.std.proofs.lemmas.Bool.{ltb-true, ltb-false}
+use Rattle.std.proofs.lemmas.Bool.{ltb-true, ltb-false, le-ltb}
 use Rattle.dur_outside.specs.World.{World, IsSound, Leaves}
 use Rattle.dur_outside.proofs.Runs.{still, joins, weaker}
 use Rattle.dur_qos.specs.declared.plan.Plan.{Plan}
@@ -20,7 +20,7 @@ use Rattle.dur_hub.specs.Handed.{acks_in}
 use Rattle.dur_hub.specs.Hubs.{Stands}
 use Rattle.dur_hub.specs.GoodRuns.{IsGoodRun}
 use Rattle.dur_hub.specs.Legal.{run_after}
-use Rattle.dur_rerun.specs.Rerun.Stores.{pending, next_batch, kept_next, with_stored, stored_all, IsSettled, IsSettledSome, PassesOn, StoresAll, IsKeeping, IsStoring, IsStoredUp, StoringSoFar, MayStore, StoreFails, EndsStoring, FailsToStore}
+use Rattle.dur_rerun.specs.Rerun.Stores.{pending, next_batch, kept_next, kept_by, kept_all, with_stored, stored_all, IsSettled, IsSettledSome, PassesOn, StoresAll, IsKeeping, IsStored, IsStoring, IsStoredUp, StoringSoFar, MayStore, StoreFails, EndsStoring, FailsToStore}
 use Rattle.dur_rerun.specs.declared.status.Status.{Status}
 use Rattle.dur_rerun.specs.declared.status.Status.TheVariants as status
 use Rattle.dur_rerun.proofs.Batches.{storing_one, storing_later, keeping_next, later_next}
@@ -53,8 +53,59 @@ stored_first tells begun log journal hub w settled =
         keeping = subst (IsKeeping plan k) (sym none) keeping;
         rises = omega arith;
         out = refl;
+        rule = ap (kept_all k) (sym none);
       };
     }
+
+-- ---- the rule of compaction
+
+-- a batch takes some of what waits
+next_some : (n : ℕ) (r : Run) → has_pending r ≡ true → 0 < length (next_batch n r)
+next_some n r some = some_by (nat_lt n (2 ^ 20)) where
+  some_by : (b : Bool) → 0 < length (cond b (take 4096 (pending r)) (pending r))
+  some_by true = omega (arith, ltb-true r.taken (length (stored r.history)) some, length-take 4096 (pending r), length-drop r.taken (stored r.history))
+  some_by false = omega (arith, ltb-true r.taken (length (stored r.history)) some, length-drop r.taken (stored r.history))
+
+-- nothing waits
+pub none_kept : (n : ℕ) (k : Kept) (r : Run) → has_pending r ≡ false → kept_by n k r ≡ k
+none_kept zero k r none = refl
+none_kept (suc n) k r none =
+    ap (λ b. cond b (kept_by n (kept_next k r) (with_stored (length (next_batch k.appended r)) r)) k) none
+
+waits_none : (r : Run) → length (pending r) ≤ 0 → has_pending r ≡ false
+waits_none r none = le-ltb r.taken (length (stored r.history)) (omega (arith, none, length-drop r.taken (stored r.history)))
+
+-- a batch leaves fewer
+left_fewer : (n : ℕ) (k : Kept) (r : Run) → has_pending r ≡ true → length (pending r) ≤ suc n
+    → length (pending (with_stored (length (next_batch k.appended r)) r)) ≤ n
+left_fewer n k r some most =
+    let m = length (next_batch k.appended r) in
+    omega (arith, most, next_some k.appended r some, length-drop r.taken (stored r.history), length-drop (r.taken + m) (stored r.history))
+
+-- more rounds than entries change nothing
+enough : (n m : ℕ) (k : Kept) (r : Run) → length (pending r) ≤ n → length (pending r) ≤ m → kept_by n k r ≡ kept_by m k r
+enough zero m k r a b = sym (none_kept m k r (waits_none r a))
+enough (suc n) zero k r a b = none_kept (suc n) k r (waits_none r b)
+enough (suc n) (suc m) k r a b =
+    by_case (has_pending r) refl
+    (λ e. enough n m (kept_next k r) (with_stored (length (next_batch k.appended r)) r) (left_fewer n k r e a) (left_fewer m k r e b)) where
+  by_case : (w : Bool) → has_pending r ≡ w
+      → (has_pending r ≡ true
+      → kept_by n (kept_next k r) (with_stored (length (next_batch k.appended r)) r)
+      ≡ kept_by m (kept_next k r) (with_stored (length (next_batch k.appended r)) r))
+      → cond w (kept_by n (kept_next k r) (with_stored (length (next_batch k.appended r)) r)) k
+      ≡ cond w (kept_by m (kept_next k r) (with_stored (length (next_batch k.appended r)) r)) k
+  by_case true e rest = rest e
+  by_case false e rest = refl
+
+-- one batch, and then the others
+next_kept : (k : Kept) (r : Run) → has_pending r ≡ true → kept_all k r ≡ kept_all (kept_next k r) (with_stored (length (next_batch k.appended r)) r)
+next_kept k r some =
+    let n = length (pending r) in
+    let q = with_stored (length (next_batch k.appended r)) r in
+    enough n (suc n) k r (omega arith) (omega arith)
+    ∙ ap (λ b. cond b (kept_by n (kept_next k r) q) k) some
+    ∙ enough n (length (pending q)) (kept_next k r) q (omega (arith, left_fewer n k r some (omega arith))) (omega arith)
 
 -- what one batch does
 abbrev pub PassesBatch : {D : Type 0} → Journal D → Hub → Journal D → Hub → Type 0
@@ -84,8 +135,10 @@ left_more tells begun log first mid hub w u v plan k s told stands keeping leave
     (subst (λ (x : Run). IsStoring plan up.now.generation x u.now c) s.passes.leads (storing_one plan up.now (run_after begun l) u.now c good here one))))
 
 pub stored_more : {D : Type 0} (tells : Type 0) (begun : Run) (log : List Event) (first mid new : Journal D) (hub hub' : Hub) (w u v : World) → StoringSoFar tells begun log first mid hub w u
-    → PassesBatch mid hub new hub' → (tells → LeavesBatch mid hub u v) → (tells → KeepsBatch mid hub u new v) → (tells → IsSound u) → (tells → IsSound v) → StoringSoFar tells begun log first new hub' w v
-stored_more tells begun log first mid new hub hub' w u v s passes leaves keeps sound-u sound-v =
+    → PassesBatch mid hub new hub' → (tells → LeavesBatch mid hub u v) → (tells → KeepsBatch mid hub u new v) → (tells → IsSound u) → (tells → IsSound v)
+    → (waits : Bool) → ((b : Run) (l : List Event) → Stands b l hub → waits ≡ has_pending (run_after b l)) → waits ≡ true
+    → StoringSoFar tells begun log first new hub' w v
+stored_more tells begun log first mid new hub hub' w u v s passes leaves keeps sound-u sound-v waits asks some =
     let l = log ++ s.passes.more in
     let x = run_after begun l in
     let m = length (next_batch mid.appended x) in
@@ -107,13 +160,16 @@ stored_more tells begun log first mid new hub hub' w u v s passes leaves keeps s
           let here : IsKeeping plan up.now x = subst (IsKeeping plan up.now) (sym s.passes.leads) up.keeping in
           let run = leaves told plan up.now begun l up.stands s.passes.settled here in
           let m_is : length (next_batch up.now.appended x) ≡ m = ap (λ a. length (next_batch a x)) (sym up.stands.appended) in
+          let at = ap (λ n. with_stored n x) m_is ∙ ap (with_stored m) s.passes.leads ∙ later_stored r s.n m in
           record {
             left = left_more tells begun log first mid hub w u v plan k s told stands keeping (leaves told);
             now = kept_next up.now x;
             stands = keeps told plan up.now begun l up.stands s.passes.settled here;
-            keeping = subst (IsKeeping plan (kept_next up.now x)) (ap (λ n. with_stored n x) m_is ∙ ap (with_stored m) s.passes.leads ∙ later_stored r s.n m) (keeping_next plan up.now x good here);
+            keeping = subst (IsKeeping plan (kept_next up.now x)) at (keeping_next plan up.now x good here);
             rises = omega (arith, up.rises, later_next up.now x);
             out = (handed_back plan up.now (kept_next up.now x) mid u v (sound-u told) (sound-v told) up.stands run).out ∙ up.out;
+            rule = up.rule ∙ ap (kept_all up.now) (sym s.passes.leads)
+                ∙ next_kept up.now x (sym (asks begun l s.passes.settled.stands) ∙ some) ∙ ap (kept_all (kept_next up.now x)) at;
           };
     }
 
@@ -146,9 +202,20 @@ ended_passes tells begun log first now hub w u waits s asks none = record {
 
 pub ended_kept : {D : Type 0} (tells : Type 0) (begun : Run) (log : List Event) (first now : Journal D) (hub : Hub) (w u : World) (waits : Bool) (plan : Plan) (k : Kept) → StoringSoFar tells begun log first now hub w u
     → ((b : Run) (l : List Event) → Stands b l hub → waits ≡ has_pending (run_after b l)) → waits ≡ false → tells → StandsFor plan k first w → IsKeeping plan k (run_after begun log)
-    → IsStoredUp plan k (run_after begun log) (stored_all (run_after begun log)) now w u
+    → IsStored plan k (run_after begun log) now w u
 ended_kept tells begun log first now hub w u waits plan k s asks none told stands keeping =
-    subst (λ (x : Run). IsStoredUp plan k (run_after begun log) x now w u) (ended_is tells begun log first now hub w u waits s asks none) (s.kept told plan k stands keeping)
+    let r = run_after begun log in
+    let l = log ++ s.passes.more in
+    let up = s.kept told plan k stands keeping in
+    let no : has_pending (with_stored s.n r) ≡ false = ap has_pending (sym s.passes.leads) ∙ sym (asks begun l s.passes.settled.stands) ∙ none in
+    let all : up.now ≡ kept_all k r = sym (up.rule ∙ none_kept (length (pending (with_stored s.n r))) up.now (with_stored s.n r) no) in
+    record {
+      stands = subst (λ (x : Kept). StandsFor plan x now u) all up.stands;
+      keeping = subst (λ (x : Kept). IsKeeping plan x (stored_all r)) all
+          (subst (IsKeeping plan up.now) (ended_is tells begun log first now hub w u waits s asks none) up.keeping);
+      rises = subst (λ (x : Kept). k.generation ≤ x.generation) all up.rises;
+      out = up.out;
+    }
 
 -- ---- how many entries wait
 
@@ -157,12 +224,6 @@ waiting hub = length (joined hub.ledger.queue.full.items ++ hub.ledger.queue.las
 
 waiting_is : (begun : Run) (log : List Event) (hub : Hub) → Stands begun log hub → waiting hub ≡ length (pending (run_after begun log))
 waiting_is begun log hub stands = ap length stands.at.at.ledger.queued.lined.pending
-
-next_some : (n : ℕ) (r : Run) → has_pending r ≡ true → 0 < length (next_batch n r)
-next_some n r some = some_by (nat_lt n (2 ^ 20)) where
-  some_by : (b : Bool) → 0 < length (cond b (take 4096 (pending r)) (pending r))
-  some_by true = omega (arith, ltb-true r.taken (length (stored r.history)) some, length-take 4096 (pending r), length-drop r.taken (stored r.history))
-  some_by false = omega (arith, ltb-true r.taken (length (stored r.history)) some, length-drop r.taken (stored r.history))
 
 -- a batch leaves fewer
 pub fewer : {D : Type 0} (old new : Journal D) (hub hub' : Hub) (waits : Bool) → IsSettledSome hub old.position → PassesBatch old hub new hub'

@@ -19,19 +19,20 @@ use Rattle.dur_hub.specs.Legal.{after as run_by, run_after}
 use Rattle.dur_hub.specs.Runs.{Run}
 use Rattle.dur_rerun.specs.declared.rerun.replays.Replay.{Replay}
 use Rattle.dur_rerun.specs.declared.rerun.service.Service.{Service}
-use Rattle.dur_rerun.specs.Rerun.Courses.{RecordCalls, Course, IsNext, place_at}
+use Rattle.dur_rerun.specs.Rerun.Courses.{RecordCalls, Course, IsNext, kept_at, kept_through, place_at}
 use Rattle.dur_rerun.specs.Rerun.Crashes.{IsCovering, IsHandling, IsKept}
 use Rattle.dur_rerun.specs.Rerun.Replies.{Place}
-use Rattle.dur_rerun.specs.Rerun.Services.{Serves, ServesSome, MayServe, EndsHandling, Handled, LeavesHandling, IsFullAt, StopsAt, StopsHandling, AnsweredAll, StartsFrom, ended}
+use Rattle.dur_rerun.specs.Rerun.Services.{Serves, ServesSome, MayServe, EndsHandling, Handled, IsAnswered, LeavesHandling, IsFullAt, StopsAt, StopsHandling, AnsweredAll, StartsFrom, ended}
 use Rattle.dur_rerun.specs.Rerun.Answer.{IsFull, IsRead, RunsOver, StopsFull}
 use Rattle.dur_rerun.specs.Input.Breaks.{EndsRecords}
 use Rattle.dur_rerun.specs.declared.status.Status.{Status}
 use Rattle.dur_rerun.specs.declared.status.Status.TheVariants.{Done, Usage, OutOfMemory, Input, ReadFault, WriteFault, DiskFault, Plan as BadPlan, NotAJournal, PlanDiffers, Full, Worn, TooMany}
-use Rattle.dur_rerun.specs.Rerun.Stores.{stored_all, IsSettled, IsKeeping, IsStoring, IsStoredUp, EndsStoring, FailsToStore, rig_of}
+use Rattle.dur_rerun.specs.Rerun.Stores.{kept_all, IsSettled, IsKeeping, IsStored, IsStoring, EndsStoring, FailsToStore, rig_of}
 use Rattle.dur_rerun.proofs.Serving.{covered_calls}
 use Rattle.dur_rerun.proofs.Recording.{storing_ends}
 use Rattle.std.specs.Prelude.{IfOk, IfErr, Ok, Err}
 use Rattle.std.specs.declared.result.Result.{Result}
+use Rattle.std.proofs.Math.Path.{path_j, subst_refl}
 
 -- ---- courses
 
@@ -59,6 +60,30 @@ course_more own before mid after (s ∷ rs) r a b x y c calls = (
   ap (λ (l : List Ack). l ++ b) c.7 ∙ append_assoc c.0 c.1 b,
   ap (λ (l : List ℕ). l ++ y) c.8 ∙ append_assoc c.2 c.3 y,
 )
+
+-- ---- what is kept
+
+-- the call of a record does not depend on how its calls came to be known
+same_call : (own own' : List ℕ) (before : Place) (r : Record) (acks : List Ack) (text : List ℕ) (after : Place) (calls : RecordCalls own before r acks text after) (is : own ≡ own')
+    → (subst (λ (l : List ℕ). RecordCalls l before r acks text after) is calls).received.call ≡ calls.received.call
+same_call own own' before r acks text after calls is =
+    path_j (λ l e. (subst (λ (m : List ℕ). RecordCalls m before r acks text after) e calls).received.call ≡ calls.received.call)
+    (ap (λ (x : RecordCalls own before r acks text after). x.received.call) (subst_refl (λ (m : List ℕ). RecordCalls m before r acks text after) calls)) is
+
+same_place : (own : List ℕ) (mid before : Place) (r : Record) (acks : List Ack) (text : List ℕ) (after : Place) (calls : RecordCalls own mid r acks text after) (is : mid ≡ before) (k : Kept)
+    → kept_at own before r (subst (λ (p : Place). RecordCalls own p r acks text after) is calls).received k ≡ kept_at own mid r calls.received k
+same_place own mid before r acks text after calls is k =
+    path_j (λ p e. kept_at own p r (subst (λ (q : Place). RecordCalls own q r acks text after) e calls).received k ≡ kept_at own mid r calls.received k)
+    (ap (λ (x : RecordCalls own mid r acks text after). kept_at own mid r x.received k) (subst_refl (λ (q : Place). RecordCalls own q r acks text after) calls)) is
+
+-- what is kept after one record more
+pub through_more : (own : List ℕ) (before mid after : Place) (rs : List Record) (r : Record) (a b : List Ack) (x y : List ℕ) (c : Course own before rs a x mid) (calls : RecordCalls own mid r b y after) (k : Kept)
+    → kept_through own before (rs ++ r ∷ []) (a ++ b) (x ++ y) after (course_more own before mid after rs r a b x y c calls) k
+    ≡ kept_at own mid r calls.received (kept_through own before rs a x mid c k)
+unfolding course_more
+through_more own before mid after [] r a b x y c calls k = same_place own mid before r b y after calls c.2 k
+through_more own before mid after (s ∷ rs) r a b x y c calls k =
+    through_more own c.4 mid after rs r c.1 b c.3 y c.6 calls (kept_at own before s c.5.received k)
 
 -- ---- what a crash leaves
 
@@ -159,7 +184,7 @@ answered_first tells begun service journal w serves none = record {
   course = (refl, refl, ap (λ (l : List Replay). place_at begun [] l) none);
   said = refl;
   kept = λ told plan k stands keeping. record {
-    answered = record { now = k; stands = stands; keeping = keeping; rises = omega arith; out = sym (append-nil w.now.written) };
+    answered = record { stands = stands; keeping = keeping; rises = omega arith; out = sym (append-nil w.now.written) };
     left = still w (IsKept service.own plan k.generation begun [] w.now);
   };
 }
@@ -170,35 +195,45 @@ pub left_next : {D : Type 0} (tells : Type 0) (own : List ℕ) (begun : Run) (rs
     → Leaves w v (IsKept own plan k.generation begun (rs ++ r ∷ []) w.now)
 left_next tells own begun rs r first mid service w u v plan k s told stands keeping leaves =
     let so = s.kept told plan k stands keeping in
+    let now = kept_through own (place_at begun [] []) rs s.acks s.text (place_at begun s.log service.replays.begun.items) s.course k in
     joins w u v (IsKept own plan k.generation begun (rs ++ r ∷ []) w.now)
     (weaker w u _ _ so.left (λ c is. kept_more own plan k.generation begun rs r w.now c is))
-    (weaker u v _ _ (leaves plan so.answered.now begun s.log so.answered.stands s.serves so.answered.keeping)
-    (λ c h. kept_handling own plan k.generation so.answered.now.generation begun s.log service.replays.begun.items rs r s.acks s.text w.now u.now c s.course s.said so.answered.rises so.answered.out
-    (subst (λ (l : List ℕ). IsHandling l plan so.answered.now.generation begun s.log service.replays.begun.items r u.now c) s.own_is h)))
+    (weaker u v _ _ (leaves plan now begun s.log so.answered.stands s.serves so.answered.keeping)
+    (λ c h. kept_handling own plan k.generation now.generation begun s.log service.replays.begun.items rs r s.acks s.text w.now u.now c s.course s.said so.answered.rises so.answered.out
+    (subst (λ (l : List ℕ). IsHandling l plan now.generation begun s.log service.replays.begun.items r u.now c) s.own_is h)))
 
 pub answered_next : {D : Type 0} (tells : Type 0) (own : List ℕ) (begun : Run) (rs : List Record) (r : Record) (first mid last : Journal D) (old new : Service) (w u v : World)
     → (s : AnsweredAll tells own begun rs first mid old w u) → Handled tells begun s.log r old mid new last u v → (tells → LeavesHandling old mid r u v)
     → AnsweredAll tells own begun (rs ++ r ∷ []) first last new w v
-answered_next tells own begun rs r first mid last old new w u v s h leaves = record {
+answered_next tells own begun rs r first mid last old new w u v s h leaves =
+  let start = place_at begun [] [] in
+  let before = place_at begun s.log old.replays.begun.items in
+  let after = place_at begun (s.log ++ h.more) new.replays.begun.items in
+  let calls = subst (λ (l : List ℕ). RecordCalls l before r h.acks h.text after) s.own_is h.calls in
+  record {
   log = s.log ++ h.more;
   serves = h.serves;
   own_is = h.own_is ∙ s.own_is;
   acks = s.acks ++ h.acks;
   text = s.text ++ h.text;
-  course = course_more own (place_at begun [] []) (place_at begun s.log old.replays.begun.items) (place_at begun (s.log ++ h.more) new.replays.begun.items) rs r s.acks h.acks s.text h.text s.course
-      (subst (λ (l : List ℕ). RecordCalls l (place_at begun s.log old.replays.begun.items) r h.acks h.text (place_at begun (s.log ++ h.more) new.replays.begun.items)) s.own_is h.calls);
+  course = course_more own start before after rs r s.acks h.acks s.text h.text s.course calls;
   said = ap (λ (l : List Ack). l ++ h.acks) s.said ∙ sym h.said;
   kept = λ told plan k stands keeping.
       let so = s.kept told plan k stands keeping in
-      let one = h.kept told plan so.answered.now so.answered.stands so.answered.keeping in
+      let now = kept_through own start rs s.acks s.text before s.course k in
+      let one = h.kept told plan now so.answered.stands so.answered.keeping in
+      let run = run_after begun (s.log ++ h.more) in
+      let answered : IsAnswered plan k (kept_at old.own before r h.calls.received now) run (s.text ++ h.text) last w v = record {
+        stands = one.stands;
+        keeping = one.keeping;
+        rises = omega (arith, so.answered.rises, one.rises);
+        out = one.out ∙ ap (λ (l : List ℕ). l ++ h.text) so.answered.out ∙ append_assoc w.now.written s.text h.text;
+      } in
+      let same : kept_at old.own before r h.calls.received now ≡ kept_at own before r calls.received now =
+      ap (λ (e : Event). kept_all now (run_by before.run e)) (sym (same_call old.own own before r h.acks h.text after h.calls s.own_is)) in
       record {
-        answered = record {
-          now = one.now;
-          stands = one.stands;
-          keeping = one.keeping;
-          rises = omega (arith, so.answered.rises, one.rises);
-          out = one.out ∙ ap (λ (l : List ℕ). l ++ h.text) so.answered.out ∙ append_assoc w.now.written s.text h.text;
-        };
+        answered = subst (λ (x : Kept). IsAnswered plan k x run (s.text ++ h.text) last w v)
+            (same ∙ sym (through_more own start before after rs r s.acks h.acks s.text h.text s.course calls k)) answered;
         left = left_next tells own begun rs r first mid old w u v plan k s told stands keeping (leaves told);
       };
 }
@@ -213,8 +248,16 @@ pub ready_on : {D : Type 0} (tells : Type 0) (own : List ℕ) (rs : List Record)
 ready_on tells own rs first now old new w u starts so told =
     let f = starts told in
     let s = so f.begun f.serves in
-    let k = (s.kept told f.plan f.k f.stands f.keeping).answered in
-    record { plan = f.plan; k = k.now; begun = f.begun; log = s.log; stands = k.stands; serves = s.serves; keeping = k.keeping }
+    let a = (s.kept told f.plan f.k f.stands f.keeping).answered in
+    record {
+      plan = f.plan;
+      k = kept_through own (place_at f.begun [] []) rs s.acks s.text (place_at f.begun s.log new.replays.begun.items) s.course f.k;
+      begun = f.begun;
+      log = s.log;
+      stands = a.stands;
+      serves = s.serves;
+      keeping = a.keeping;
+    }
 
 pub plan_on : {D : Type 0} (tells : Type 0) (own : List ℕ) (rs : List Record) (first now : Journal D) (old new : Service) (w u : World) → ((b : Run) × Serves b [] old first.position)
     → ((b : Run) → Serves b [] old first.position → AnsweredAll tells own b rs first now new w u) → GoodPlan old.plan → GoodPlan new.plan
@@ -301,7 +344,7 @@ full_handling own plan begun rs r acks text place (PlanDiffers name) course f = 
 
 -- no record came
 pub ends_reading : {D : Type 0} (tells : Type 0) (own : List ℕ) (begun : Run) (rs : List Record) (first now : Journal D) (service : Service) (w u : World) (status : Status) (plan : Plan) (k : Kept)
-    → (s : AnsweredAll tells own begun rs first now service w u) → EndsRecords status → tells → StandsFor plan k first w → IsKeeping plan k begun → RunsOver own plan k.generation begun rs status w u
+    → (s : AnsweredAll tells own begun rs first now service w u) → EndsRecords status → tells → StandsFor plan k first w → IsKeeping plan k begun → RunsOver own plan k begun rs status w u
 ends_reading tells own begun rs first now service w u status plan k s ends told stands keeping =
     let so = s.kept told plan k stands keeping in
     record {
@@ -314,12 +357,13 @@ ends_reading tells own begun rs first now service w u status plan k s ends told 
 -- a record was not handled
 pub ends_handling : {D : Type 0} (tells : Type 0) (own : List ℕ) (begun : Run) (rs : List Record) (r : Record) (first mid : Journal D) (service : Service) (w u v : World) (status : Status) (plan : Plan) (k : Kept)
     → AnsweredAll tells own begun rs first mid service w u → EndsHandling status → (tells → LeavesHandling service mid r u v) → (tells → StopsHandling service mid r u status) → tells → StandsFor plan k first w
-    → IsKeeping plan k begun → RunsOver own plan k.generation begun (rs ++ r ∷ []) status w v
+    → IsKeeping plan k begun → RunsOver own plan k begun (rs ++ r ∷ []) status w v
 ends_handling tells own begun rs r first mid service w u v status plan k s ends leaves stops told stands keeping = record {
   full =
       let a = (s.kept told plan k stands keeping).answered in
       full_handling own plan begun rs r s.acks s.text (place_at begun s.log service.replays.begun.items) status s.course
-      (subst (λ (l : List ℕ). StopsAt l plan (place_at begun s.log service.replays.begun.items) r status) s.own_is (stops told plan a.now begun s.log a.stands s.serves a.keeping));
+      (subst (λ (l : List ℕ). StopsAt l plan (place_at begun s.log service.replays.begun.items) r status) s.own_is
+      (stops told plan (kept_through own (place_at begun [] []) rs s.acks s.text (place_at begun s.log service.replays.begun.items) s.course k) begun s.log a.stands s.serves a.keeping));
   left = left_next tells own begun rs r first mid service w u v plan k s told stands keeping (leaves told);
   said = λ read. absurd (not_read status ends read);
   stored = λ done. absurd (subst EndsHandling done ends);
@@ -333,16 +377,17 @@ pub left_last : {D : Type 0} (tells : Type 0) (own : List ℕ) (begun : Run) (rs
 left_last tells own begun rs first mid service w u v plan k s told stands keeping run =
     let so = s.kept told plan k stands keeping in
     let a = so.answered in
+    let now = kept_through own (place_at begun [] []) rs s.acks s.text (place_at begun s.log service.replays.begun.items) s.course k in
     joins w u v (IsKept own plan k.generation begun rs w.now) so.left
-    (weaker u v _ _ (run plan a.now begun s.log a.stands s.serves.settled a.keeping)
-    (λ c is. kept_storing own plan k.generation a.now.generation begun s.log service mid.position rs s.acks s.text w.now u.now c s.serves s.course s.said a.rises a.out is))
+    (weaker u v _ _ (run plan now begun s.log a.stands s.serves.settled a.keeping)
+    (λ c is. kept_storing own plan k.generation now.generation begun s.log service mid.position rs s.acks s.text w.now u.now c s.serves s.course s.said a.rises a.out is))
 
 pub ends_storing : {D : Type 0} (tells : Type 0) (own : List ℕ) (begun : Run) (rs : List Record) (first mid : Journal D) (service : Service) (w u v : World) (status : Status) (plan : Plan) (k : Kept)
     → AnsweredAll tells own begun rs first mid service w u → EndsHandling status
     → ((q : Plan) (x : Kept) (b : Run) (l : List Event) → StandsFor q x mid u → IsSettled b l service.hub mid.position → IsKeeping q x (run_after b l) → FailsToStore q (run_after b l) status)
     → tells → StandsFor plan k first w → IsKeeping plan k begun
     → ((q : Plan) (x : Kept) (b : Run) (l : List Event) → StandsFor q x mid u → IsSettled b l service.hub mid.position → IsKeeping q x (run_after b l) → Leaves u v (IsStoring q x.generation (run_after b l) u.now))
-    → RunsOver own plan k.generation begun rs status w v
+    → RunsOver own plan k begun rs status w v
 ends_storing tells own begun rs first mid service w u v status plan k s ends fails told stands keeping run = record {
   full =
       let a = (s.kept told plan k stands keeping).answered in
@@ -356,7 +401,7 @@ ends_storing tells own begun rs first mid service w u v status plan k s ends fai
         course = s.course;
         run = run_after begun s.log;
         next = (refl, refl, refl);
-        fails = fails plan a.now begun s.log a.stands s.serves.settled a.keeping;
+        fails = fails plan (kept_through own (place_at begun [] []) rs s.acks s.text (place_at begun s.log service.replays.begun.items) s.course k) begun s.log a.stands s.serves.settled a.keeping;
       });
   left = left_last tells own begun rs first mid service w u v plan k s told stands keeping run;
   said = λ read. absurd (not_read status ends read);
@@ -366,13 +411,15 @@ ends_storing tells own begun rs first mid service w u v status plan k s ends fai
 pub ends_done : {D : Type 0} (tells : Type 0) (own : List ℕ) (begun : Run) (rs : List Record) (first mid last : Journal D) (service : Service) (w u v : World) (plan : Plan) (k : Kept)
     → AnsweredAll tells own begun rs first mid service w u → tells → StandsFor plan k first w → IsKeeping plan k begun
     → ((q : Plan) (x : Kept) (b : Run) (l : List Event) → StandsFor q x mid u → IsSettled b l service.hub mid.position → IsKeeping q x (run_after b l) → Leaves u v (IsStoring q x.generation (run_after b l) u.now))
-    → ((q : Plan) (x : Kept) (b : Run) (l : List Event) → StandsFor q x mid u → IsSettled b l service.hub mid.position → IsKeeping q x (run_after b l) → IsStoredUp q x (run_after b l) (stored_all (run_after b l)) last u v)
-    → RunsOver own plan k.generation begun rs Done w v
+    → ((q : Plan) (x : Kept) (b : Run) (l : List Event) → StandsFor q x mid u → IsSettled b l service.hub mid.position → IsKeeping q x (run_after b l) → IsStored q x (run_after b l) last u v)
+    → RunsOver own plan k begun rs Done w v
 ends_done tells own begun rs first mid last service w u v plan k s told stands keeping run kept =
     let so = s.kept told plan k stands keeping in
     let a = so.answered in
     let q = run_after begun s.log in
-    let up = kept plan a.now begun s.log a.stands s.serves.settled a.keeping in
+    let now = kept_through own (place_at begun [] []) rs s.acks s.text (place_at begun s.log service.replays.begun.items) s.course k in
+    let all = kept_all now q in
+    let up = kept plan now begun s.log a.stands s.serves.settled a.keeping in
     let out : v.now.written ≡ w.now.written ++ s.text = up.out ∙ a.out in
     record {
       left = left_last tells own begun rs first mid service w u v plan k s told stands keeping run;
@@ -383,10 +430,10 @@ ends_done tells own begun rs first mid last service w u v plan k s told stands k
         place = place_at begun s.log service.replays.begun.items;
         course = s.course;
         out = out;
-        k = up.now;
-        keeps = stands_keeps plan up.now last v up.stands;
-        whole = subst (IsCutOf up.now.history) (durable_all q.history) (behind_of up.now.history q.history (length (stored q.history)) q.moment up.keeping.behind);
-        generation = omega (arith, a.rises, up.rises);
+        k = all;
+        keeps = stands_keeps plan all last v up.stands;
+        whole = subst (IsCutOf all.history) (durable_all q.history) (behind_of all.history q.history (length (stored q.history)) q.moment up.keeping.behind);
+        rule = refl;
       };
       full = tt;
     }
@@ -398,8 +445,8 @@ pub ends_last : {D : Type 0} (tells : Type 0) (own : List ℕ) (begun : Run) (rs
     → tells → StandsFor plan k first w → IsKeeping plan k begun
     → ((q : Plan) (x : Kept) (b : Run) (l : List Event) → StandsFor q x mid u → IsSettled b l service.hub mid.position → IsKeeping q x (run_after b l) → Leaves u (world (rig_of result)) (IsStoring q x.generation (run_after b l) u.now))
     → ((q : Plan) (x : Kept) (b : Run) (l : List Event) → StandsFor q x mid u → IsSettled b l service.hub mid.position → IsKeeping q x (run_after b l)
-    → IfOk result (λ last. IsStoredUp q x (run_after b l) (stored_all (run_after b l)) last u (world last.disk)))
-    → RunsOver own plan k.generation begun rs (ended result) w (world (rig_of result))
+    → IfOk result (λ last. IsStored q x (run_after b l) last u (world last.disk)))
+    → RunsOver own plan k begun rs (ended result) w (world (rig_of result))
 ends_last tells own begun rs first mid service w u world (Ok last) plan k s ends fails told stands keeping run kept =
     ends_done tells own begun rs first mid last service w u (world last.disk) plan k s told stands keeping run kept
 ends_last tells own begun rs first mid service w u world (Err e) plan k s ends fails told stands keeping run kept =

@@ -27,7 +27,7 @@ use Rattle.dur_rerun.specs.declared.status.Status.TheVariants.{OutOfMemory}
 use Rattle.dur_rerun.specs.Input.Plan.{Opens}
 use Rattle.dur_rerun.specs.Input.Prefix.{own_prefix}
 use Rattle.dur_rerun.specs.Rerun.Opening.{IsOpening, IsOver}
-use Rattle.dur_rerun.specs.Rerun.Answer.{EndsCourse, IsOpenedFrom, OpensNot, ReadsAs, ReadsBehind, RerunLeaves, RunsOver, RunsOn, RunsPlan}
+use Rattle.dur_rerun.specs.Rerun.Answer.{EndsCourse, IsOpenedFrom, kept_first, OpensNot, ReadsAs, ReadsBehind, RerunLeaves, RunsOver, RunsOn, RunsPlan}
 use Rattle.dur_rerun.specs.Rerun.Crashes.{IsKept}
 use Rattle.dur_rerun.specs.Rerun.Services.{Begins, IsFoundFor, Serves, StartsFrom}
 use Rattle.dur_rerun.specs.Rerun.Stores.{IsKeeping}
@@ -67,8 +67,8 @@ starts_so plan view epoch s journal w good kept b none found = record {
 }
 
 -- no hub was made
-pub none_run : (own : List ℕ) (plan : Plan) (epoch : ℕ) (begun : Run) (w : World) → RunsOver own plan epoch begun [] OutOfMemory w w
-none_run own plan epoch begun w = record { left = still w (IsKept own plan epoch begun [] w.now); said = λ read. absurd read; stored = λ done. absurd (cc); full = tt }
+pub none_run : (own : List ℕ) (plan : Plan) (first : Kept) (begun : Run) (w : World) → RunsOver own plan first begun [] OutOfMemory w w
+none_run own plan first begun w = record { left = still w (IsKept own plan first.generation begun [] w.now); said = λ read. absurd read; stored = λ done. absurd (cc); full = tt }
 
 -- ---- the opening and then the records
 
@@ -94,7 +94,7 @@ kept_from own plan epoch begun rs old mid c same k = record {
 
 pub runs_on : (plan : Plan) (view : View) (epoch : ℕ) (rs : List Record) (Reads : List Record → Type 0) (s : Status) (tells : Type 0) (w u v : World) → Reads rs → EndsCourse s
     → (tells → IsOpenedFrom plan w.now view epoch) → (tells → u.now.written ≡ w.now.written) → (tells → IsSound w) → (tells → Leaves w u (OpenLeaves plan w))
-    → (tells → RunsOver (own_prefix epoch plan) plan epoch (opening plan view 0) rs s u v) → RunsOn plan Reads s tells w v
+    → (tells → RunsOver (own_prefix epoch plan) plan (kept_first view epoch) (opening plan view 0) rs s u v) → RunsOn plan Reads s tells w v
 runs_on plan view epoch rs Reads s tells w u v reads ends opened out sound first here =
     let begun = opening plan view 0 in
     record {
@@ -122,7 +122,7 @@ runs_on plan view epoch rs Reads s tells w u v reads ends opened out sound first
             k = a.k;
             keeps = a.keeps;
             whole = a.whole;
-            generation = a.generation;
+            rule = a.rule;
           };
       full = λ told. (here told).full;
     }
@@ -160,12 +160,12 @@ plan_behind known mid seen p o s tells w v consumed does = record {
 -- what a service that began with the opened journal does
 pub serves_so : {D : Type 0} (plan : Plan) (view : View) (epoch : ℕ) (service : Service) (journal : Journal D) (rs : List Record) (s : Status) (w v : World) → GoodPlan plan → IsKeptView plan view → Begins plan view epoch service
     → IsFoundFor plan view epoch journal w
-    → ((q : Plan) (k : Kept) → StandsFor q k journal w → IsKeeping q k (opening plan view 0) → RunsOver service.own q k.generation (opening plan view 0) rs s w v)
-    → RunsOver (own_prefix epoch plan) plan epoch (opening plan view 0) rs s w v
+    → ((q : Plan) (k : Kept) → StandsFor q k journal w → IsKeeping q k (opening plan view 0) → RunsOver service.own q k (opening plan view 0) rs s w v)
+    → RunsOver (own_prefix epoch plan) plan (kept_first view epoch) (opening plan view 0) rs s w v
 serves_so plan view epoch service journal rs s w v good kept b found runs =
     let k = renewed view found.k in
-    subst (λ (n : ℕ). RunsOver (own_prefix epoch plan) plan n (opening plan view 0) rs s w v) (sym found.epoch_is)
-    (subst (λ (l : List ℕ). RunsOver l plan k.generation (opening plan view 0) rs s w v) b.own (runs plan k found.stands (keeps_first plan view epoch service found.k good kept b)))
+    subst (λ (n : ℕ). RunsOver (own_prefix epoch plan) plan (kept_first view n) (opening plan view 0) rs s w v) (sym found.epoch_is)
+    (subst (λ (l : List ℕ). RunsOver l plan k (opening plan view 0) rs s w v) b.own (runs plan k found.stands (keeps_first plan view epoch service found.k good kept b)))
 
 pub opened_from : {D : Type 0} (plan : Plan) (c : Image) (found : Found D) (v : World) → OpensAs plan c found v → IsOpenedFrom plan c found.view found.epoch
 opened_from plan c found v o = record { k = o.k; keeps = o.keeps; agrees = o.agrees; view_is = o.view; epoch_is = o.epoch }

@@ -42,8 +42,8 @@ use Rattle.dur_rerun.specs.Rerun.Crashes.{IsHandling}
 use Rattle.dur_rerun.specs.Rerun.Saying.{IsFront, Says}
 use Rattle.dur_rerun.specs.Rerun.Steps.{AreSnapshots, IsSnapshot, Leads, Wherever}
 use Rattle.dur_rerun.specs.declared.rerun.reply.Cut.{Cut}
-use Rattle.dur_rerun.specs.Rerun.Stores.{stored_all, IsSettled, IsSettledSome, StoresAll, IsKeeping, IsStoring, IsStoredUp, FailsToStore, MayStore}
-use Rattle.dur_rerun.specs.Rerun.Services.{Serves, ServesSome, MayServe, HasReceived, TakenIn, Answered, CutShort, Handled, EndsAnswering, IsFullAt, StopsAt}
+use Rattle.dur_rerun.specs.Rerun.Stores.{kept_all, stored_all, IsSettled, IsSettledSome, StoresAll, IsKeeping, IsStored, IsStoring, FailsToStore, MayStore}
+use Rattle.dur_rerun.specs.Rerun.Services.{Serves, ServesSome, MayServe, HasReceived, TakenIn, IsAnswered, Answered, CutShort, Handled, EndsAnswering, IsFullAt, StopsAt}
 use Rattle.dur_rerun.specs.declared.status.Status.{Status}
 use Rattle.dur_rerun.specs.declared.status.Status.TheVariants as status
 use Rattle.dur_rerun.specs.Rerun.Replies.{Place, Replies, BeginsReplies, nacks}
@@ -243,7 +243,7 @@ front_handles own plan epoch k begun log replays r e text old mid c good has rec
 pub taken_in : {D : Type 0} (tells : Type 0) (begun : Run) (log : List Event) (r : Record) (old new : Service) (first now : Journal D) (hub : Hub) (reply : Received) (asked : List Nack) (w u : World)
     → Admitted old.own r reply asked old.hub hub → Serves begun log old first.position
     → ((b : Run) (l : List Event) → IsSettled b l hub first.position → StoresAll b l new.hub now.position)
-    → (tells → (plan : Plan) (k : Kept) (b : Run) (l : List Event) → StandsFor plan k first w → IsSettled b l hub first.position → IsKeeping plan k (run_after b l) → IsStoredUp plan k (run_after b l) (stored_all (run_after b l)) now w u)
+    → (tells → (plan : Plan) (k : Kept) (b : Run) (l : List Event) → StandsFor plan k first w → IsSettled b l hub first.position → IsKeeping plan k (run_after b l) → IsStored plan k (run_after b l) now w u)
     → new ≡ record old { hub = new.hub } → TakenIn tells begun log r old first new now reply.acks asked w u
 taken_in tells begun log r old new first now hub reply asked w u a serves stores kept same =
     let settled = settled_received begun log old.hub hub first.position old.own r a.call serves.settled a.adds a.brings in
@@ -259,8 +259,7 @@ taken_in tells begun log r old new first now hub reply asked w u a serves stores
       silent = s.silent;
       same = same;
       kept = λ told plan k stands keeping.
-          let up = kept told plan k begun (log ++ a.call ∷ []) stands settled (keeping_received plan k begun log old.hub hub first.position old.own r a.call serves.settled a.adds a.brings keeping) in
-          record { now = up.now; stands = up.stands; keeping = up.keeping; rises = up.rises; out = up.out };
+          kept told plan k begun (log ++ a.call ∷ []) stands settled (keeping_received plan k begun log old.hub hub first.position old.own r a.call serves.settled a.adds a.brings keeping);
     }
 
 pub taken_left : {D : Type 0} (begun : Run) (log : List Event) (r : Record) (old : Service) (first : Journal D) (hub : Hub) (reply : Received) (asked : List Nack) (plan : Plan) (k : Kept) (w u : World)
@@ -319,16 +318,18 @@ handled tells begun log r old mid new first between last acks asked w u v t a =
           let q = run_after begun two in
           let legal = legal_behind begun two a.more a.serves.settled.stands.legal in
           let is = run_more begun two a.more in
-          record {
-            now = st.now;
-            stands = a.stands told plan st.now st.stands;
-            keeping = subst (λ (l : List Event). IsKeeping plan st.now (run_after begun l)) (sym both)
-                (subst (IsKeeping plan st.now) (sym is)
-                (keeping_later plan st.now q (run_after q a.more) t.serves.settled.stands.at.at.good (later_calls q a.more legal) (sym (ap (λ (x : Run). x.taken) is) ∙ a.counts)
-                (subst (IsKeeping plan st.now) (sym t.leads) st.keeping)));
+          let now = kept_all k (run_after begun one) in
+          let later = run_after begun (log ++ (e ∷ (t.more ++ a.more))) in
+          let answered : IsAnswered plan k now later a.text last w v = record {
+            stands = a.stands told plan now st.stands;
+            keeping = subst (λ (l : List Event). IsKeeping plan now (run_after begun l)) (sym both)
+                (subst (IsKeeping plan now) (sym is)
+                (keeping_later plan now q (run_after q a.more) t.serves.settled.stands.at.at.good (later_calls q a.more legal) (sym (ap (λ (x : Run). x.taken) is) ∙ a.counts)
+                (subst (IsKeeping plan now) (sym t.leads) st.keeping)));
             rises = st.rises;
             out = a.out told ∙ ap (λ (l : List ℕ). l ++ a.text) st.out;
-          };
+          } in
+          subst (λ (x : Run). IsAnswered plan k (kept_all k x) later a.text last w v) (run_more begun log (e ∷ [])) answered;
     }
 
 -- a crash while its text goes out
@@ -338,8 +339,9 @@ pub answer_left : {D : Type 0} (tells : Type 0) (begun : Run) (log : List Event)
     → Leaves u v (IsHandling old.own plan k.generation begun log old.replays.begun.items r w.now)
 answer_left tells begun log r old mid first between acks asked text plan k w u v t good told stands keeping made left =
     let st = t.kept told plan k stands keeping in
+    let now = kept_all k (run_after begun (log ++ t.received.call ∷ [])) in
     weaker u v _ _ left (λ c front.
-    front_handles old.own plan k.generation st.now begun log old.replays.begun.items r t.received.call text w.now u.now c good t.has t.received refl made st.out (stands_keeps plan st.now between u st.stands) st.rises st.keeping front)
+    front_handles old.own plan k.generation now begun log old.replays.begun.items r t.received.call text w.now u.now c good t.has t.received refl made st.out (stands_keeps plan now between u st.stands) st.rises st.keeping front)
 
 -- what was made of its answer
 pub made_all : {D : Type 0} (tells : Type 0) (begun : Run) (log : List Event) (r : Record) (old mid new : Service) (first between last : Journal D) (acks : List Ack) (asked : List Nack) (w u v : World)
@@ -370,7 +372,11 @@ pub ready_taken : {D : Type 0} (tells : Type 0) (r : Record) (old mid : Service)
     → ((b : Run) (l : List Event) → Serves b l old first.position → TakenIn tells b l r old first mid between acks asked w u) → tells → IsReady between u
 ready_taken tells r old mid first between acks asked w u m taken told =
     let st = (taken m.begun m.log m.serves).kept told m.plan m.k m.stands m.keeping in
-    record { plan = m.plan; k = st.now; stands = st.stands }
+    record {
+      plan = m.plan;
+      k = kept_all m.k (run_after m.begun (m.log ++ (taken m.begun m.log m.serves).received.call ∷ []));
+      stands = st.stands;
+    }
 
 pub plan_taken : {D : Type 0} (tells : Type 0) (r : Record) (old mid : Service) (first between : Journal D) (acks : List Ack) (asked : List Nack) (w u : World) → ServesSome old first.position
     → ((b : Run) (l : List Event) → Serves b l old first.position → TakenIn tells b l r old first mid between acks asked w u) → GoodPlan old.plan → GoodPlan mid.plan

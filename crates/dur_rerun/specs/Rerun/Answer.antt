@@ -10,6 +10,7 @@ use Rattle.dur_outside.specs.World.{Image, World, Leaves}
 use Rattle.dur_qos.specs.declared.plan.Plan.{Plan as PlanOf}
 use Rattle.dur_qos.specs.Text.{PlanText}
 use Rattle.dur_view.specs.declared.data.View.{View}
+use Rattle.dur_view.specs.History.{Start}
 use Rattle.dur_view.specs.Persistent.{persistent}
 use Rattle.dur_journal.specs.declared.opening.OpenFault.{OpenFault}
 use Rattle.dur_journal.specs.declared.opening.OpenFault.TheVariants as fault
@@ -23,11 +24,11 @@ use Rattle.dur_rerun.specs.declared.status.Status.{Status}
 use Rattle.dur_rerun.specs.declared.status.Status.TheVariants.{Done, OutOfMemory, Input, ReadFault, WriteFault, DiskFault, NotAJournal, PlanDiffers, Full, Worn}
 use Rattle.dur_rerun.specs.Input.Breaks.{place_at as place_of, EndsPlan, StopsPlan}
 use Rattle.dur_rerun.specs.Input.Prefix.{own_prefix}
-use Rattle.dur_rerun.specs.Rerun.Courses.{Course, IsNext, place_at}
+use Rattle.dur_rerun.specs.Rerun.Courses.{Course, IsNext, kept_through, place_at}
 use Rattle.dur_rerun.specs.Rerun.Crashes.{IsKept}
 use Rattle.dur_rerun.specs.Rerun.Kept.{IsCutOf}
 use Rattle.dur_rerun.specs.Rerun.Replies.{Place}
-use Rattle.dur_rerun.specs.Rerun.Stores.{FailsToStore}
+use Rattle.dur_rerun.specs.Rerun.Stores.{kept_all, FailsToStore}
 
 -- ---- the records
 
@@ -72,9 +73,9 @@ pub record IsSaidFor (own : List ℕ) (begun : Run) (records : List Record) (old
   pub course : Course own (place_at begun [] []) records acks text place
   pub out : new.written ≡ old.written ++ text
 
--- All that the records call for was written out, and the disk keeps the whole persistent history to which they lead, under an
--- epoch or a later generation.
-pub record IsStoredFor (own : List ℕ) (plan : PlanOf) (epoch : ℕ) (begun : Run) (records : List Record) (old new : Image) : Type 0 where
+-- All that the records call for was written out, and the disk, which first kept this, keeps the whole persistent history to which
+-- they lead, with the generation and the octets appended that the rule of compaction gives.
+pub record IsStoredFor (own : List ℕ) (plan : PlanOf) (first : Kept) (begun : Run) (records : List Record) (old new : Image) : Type 0 where
   pub acks : List Ack
   pub text : List ℕ
   pub place : Place
@@ -83,7 +84,7 @@ pub record IsStoredFor (own : List ℕ) (plan : PlanOf) (epoch : ℕ) (begun : R
   pub k : Kept
   pub keeps : Keeps plan new k
   pub whole : IsCutOf k.history (persistent place.run.history)
-  pub generation : epoch ≤ k.generation
+  pub rule : k ≡ kept_all (kept_through own (place_at begun [] []) records acks text place course first) place.run
 
 -- Some of the records were answered, and the next one may have been received; and of what was to be stored then some batches were, but
 -- not the next one.
@@ -105,14 +106,14 @@ StopsFull own plan begun records (Full size) = IsFull own plan begun records (Fu
 StopsFull own plan begun records Worn = IsFull own plan begun records Worn
 StopsFull own plan begun records s = Unit {0}
 
--- What a run over records does to the outside, with the disk in keeping.
-pub record RunsOver (own : List ℕ) (plan : PlanOf) (epoch : ℕ) (begun : Run) (records : List Record) (s : Status) (w v : World) : Type 0 where
+-- What a run over records does to the outside, with the disk in keeping, which first kept this.
+pub record RunsOver (own : List ℕ) (plan : PlanOf) (first : Kept) (begun : Run) (records : List Record) (s : Status) (w v : World) : Type 0 where
   -- each crash state since its start is one of the start, or kept as the crash promise says
-  pub left : Leaves w v (IsKept own plan epoch begun records w.now)
+  pub left : Leaves w v (IsKept own plan first.generation begun records w.now)
   -- each record that was read was answered in full
   pub said : IsRead s → IsSaidFor own begun records w.now v.now
   -- and with the status 0 everything is stored
-  pub stored : s ≡ Done → IsStoredFor own plan epoch begun records w.now v.now
+  pub stored : s ≡ Done → IsStoredFor own plan first begun records w.now v.now
   -- a view that is too long, or no generation left
   pub full : StopsFull own plan begun records s
 
@@ -160,11 +161,15 @@ pub record IsOpenedFrom (plan : PlanOf) (c : Image) (view : View) (epoch : ℕ) 
   pub view_is : view ≡ view_of k.history
   pub epoch_is : epoch ≡ k.generation + 1
 
+-- what an opening leaves: its view, under its epoch, and no octet appended
+abbrev pub kept_first : View → ℕ → Kept
+kept_first view epoch = record { generation = epoch; history = Start view; appended = 0 }
+
 -- The records behind a plan were handled over a journal that was opened with that view under that epoch.
 pub record ServesOn (plan : PlanOf) (view : View) (epoch : ℕ) (Reads : List Record → Type 0) (s : Status) (tells : Type 0) (u v : World) : Type 0 where
   pub records : List Record
   pub reads : Reads records
-  pub runs : tells → RunsOver (own_prefix epoch plan) plan epoch (opening plan view 0) records s u v
+  pub runs : tells → RunsOver (own_prefix epoch plan) plan (kept_first view epoch) (opening plan view 0) records s u v
 
 -- The journal was opened over the plan, and then the records were handled one after the other.
 pub record RunsOn (plan : PlanOf) (Reads : List Record → Type 0) (s : Status) (tells : Type 0) (w v : World) : Type 0 where
@@ -179,7 +184,8 @@ pub record RunsOn (plan : PlanOf) (Reads : List Record → Type 0) (s : Status) 
   -- what went out
   pub said : tells → IsRead s → IsSaidFor (own_prefix epoch plan) (opening plan view 0) records w.now v.now
   -- and with the status 0 what is kept
-  pub stored : tells → s ≡ Done → IsStoredFor (own_prefix epoch plan) plan epoch (opening plan view 0) records w.now v.now
+  pub stored : tells → s ≡ Done
+      → IsStoredFor (own_prefix epoch plan) plan (kept_first view epoch) (opening plan view 0) records w.now v.now
   -- and why nothing more could be stored
   pub full : tells → StopsFull (own_prefix epoch plan) plan (opening plan view 0) records s
 

@@ -9,7 +9,8 @@ use Rattle.dur_hub.specs.Runs.{Run}
 use Rattle.dur_rerun.specs.Admission.{Brings}
 use Rattle.dur_rerun.specs.Rerun.Replies.{Place, Replies, BeginsReplies, nacks}
 pub use Rattle.dur_rerun.specs.Rerun.Steps.{place_at}
-use Rattle.dur_rerun.specs.Rerun.Stores.{stored_all}
+use Rattle.dur_journal.specs.Kept.{Kept}
+use Rattle.dur_rerun.specs.Rerun.Stores.{stored_all, kept_all}
 
 -- where a record is answered: the hub was called for it, and then each persistent entry was stored
 abbrev pub answered_at : Place → Event → Place
@@ -34,6 +35,16 @@ Course own before [] acks text after = (acks ≡ []) × (text ≡ []) × (after 
 Course own before (r ∷ rs) acks text after =
     (a : List Ack) × (b : List Ack) × (x : List ℕ) × (y : List ℕ) × (mid : Place)
     × RecordCalls own before r a x mid × Course own mid rs b y after × (acks ≡ a ++ b) × (text ≡ x ++ y)
+
+-- What is kept once a record is answered: what it brought is stored by the rule of compaction.
+abbrev pub kept_at : (own : List ℕ) (before : Place) (r : Record) → Receives own before r → Kept → Kept
+kept_at own before r received k = kept_all k (run_by before.run received.call)
+
+-- What is kept once records are answered, one after the other.
+abbrev pub kept_through : (own : List ℕ) (before : Place) (rs : List Record) (acks : List Ack) (text : List ℕ) (after : Place) → Course own before rs acks text after → Kept → Kept
+kept_through own before [] acks text after course k = k
+kept_through own before (r ∷ rs) acks text after course k =
+    kept_through own course.4 rs course.1 course.3 after course.6 (kept_at own before r course.5.received k)
 
 -- What was made so far of the text for a record that was received: its acknowledgements, and a text of which the first messages
 -- are known.

@@ -22,12 +22,12 @@ use Rattle.dur_rerun.specs.declared.status.Status.{Status}
 use Rattle.dur_rerun.specs.declared.status.Status.TheVariants as status
 use Rattle.dur_rerun.specs.declared.rerun.service.Service.{Service}
 use Rattle.dur_rerun.specs.declared.rerun.nacks.Nack.{Nack}
-use Rattle.dur_rerun.specs.Rerun.Courses.{Receives, RecordCalls, Course, place_at}
+use Rattle.dur_rerun.specs.Rerun.Courses.{Receives, RecordCalls, Course, kept_at, kept_through, place_at}
 use Rattle.dur_rerun.specs.Rerun.Crashes.{IsHandling, IsKept}
 use Rattle.dur_rerun.specs.Rerun.Opening.{IsOpening}
 use Rattle.dur_rerun.specs.Rerun.Replies.{Place, Replies, BeginsReplies, nacks}
 use Rattle.dur_rerun.specs.Rerun.Saying.{IsFront}
-use Rattle.dur_rerun.specs.Rerun.Stores.{stored_all, IsSettled, IsKeeping, EndsStoring, FailsToStore}
+use Rattle.dur_rerun.specs.Rerun.Stores.{stored_all, IsSettled, IsKeeping, IsStored, EndsStoring, FailsToStore}
 
 -- The service's hub stands for these calls over a good run of its plan, and all that was handed out is durable.
 pub record Serves (begun : Run) (log : List Event) (service : Service) (position : ℕ) : Type 0 where
@@ -39,17 +39,8 @@ pub record Serves (begun : Run) (log : List Event) (service : Service) (position
 abbrev pub ServesSome : Service → ℕ → Type 0
 ServesSome service position = (begun : Run) × (log : List Event) × Serves begun log service position
 
--- The disk keeps what stands for the later run, and nothing was written out.
-pub record IsStored {D : Type 0} (plan : Plan) (k : Kept) (later : Run) (journal : Journal D) (w v : World) : Type 0 where
-  pub now : Kept
-  pub stands : StandsFor plan now journal v
-  pub keeping : IsKeeping plan now later
-  pub rises : k.generation ≤ now.generation
-  pub out : v.now.written ≡ w.now.written
-
--- The text went out, and the disk keeps what stands for the later run.
-pub record IsAnswered {D : Type 0} (plan : Plan) (k : Kept) (later : Run) (text : List ℕ) (journal : Journal D) (w v : World) : Type 0 where
-  pub now : Kept
+-- The text went out, and the disk keeps this now, which stands for the later run.
+pub record IsAnswered {D : Type 0} (plan : Plan) (k now : Kept) (later : Run) (text : List ℕ) (journal : Journal D) (w v : World) : Type 0 where
   pub stands : StandsFor plan now journal v
   pub keeping : IsKeeping plan now later
   pub rises : k.generation ≤ now.generation
@@ -94,7 +85,7 @@ pub record TakenIn {D : Type 0} (tells : Type 0) (begun : Run) (log : List Event
   pub silent : acks_in ((log ++ received.call ∷ []) ++ more) ≡ acks_in (log ++ received.call ∷ [])
   pub same : new ≡ record old { hub = new.hub }
   pub kept : tells → (plan : Plan) (k : Kept) → StandsFor plan k first w → IsKeeping plan k (run_after begun log)
-      → IsStored plan k (stored_all (run_after begun (log ++ received.call ∷ []))) now w u
+      → IsStored plan k (run_after begun (log ++ received.call ∷ [])) now w u
 
 -- The text for a record that was taken in went out.
 pub record Answered {D : Type 0} (tells : Type 0) (begun : Run) (log : List Event) (port : ℕ) (acks : List Ack) (asked : List Nack) (old : Service) (first : Journal D) (new : Service) (now : Journal D) (w v : World) : Type 0 where
@@ -126,7 +117,7 @@ pub record Handled {D : Type 0} (tells : Type 0) (begun : Run) (log : List Event
   pub said : acks_in (log ++ more) ≡ acks_in log ++ acks
   pub own_is : new.own ≡ old.own
   pub kept : tells → (plan : Plan) (k : Kept) → StandsFor plan k first w → IsKeeping plan k (run_after begun log)
-      → IsAnswered plan k (run_after begun (log ++ more)) text now w v
+      → IsAnswered plan k (kept_at old.own (place_at begun log old.replays.begun.items) r calls.received k) (run_after begun (log ++ more)) text now w v
 
 -- What a crash leaves of the handling of one record.
 abbrev pub LeavesHandling : {D : Type 0} → Service → Journal D → Record → World → World → Type 0
@@ -134,8 +125,8 @@ LeavesHandling service journal r u v =
     WhereServed service journal u (λ plan k begun log. Leaves u v (IsHandling service.own plan k.generation begun log service.replays.begun.items r u.now))
 
 -- What is kept after some records, and what a crash since the first may have left.
-pub record IsKeptSoFar {D : Type 0} (own : List ℕ) (plan : Plan) (k : Kept) (begun : Run) (records : List Record) (later : Run) (text : List ℕ) (journal : Journal D) (w u : World) : Type 0 where
-  pub answered : IsAnswered plan k later text journal w u
+pub record IsKeptSoFar {D : Type 0} (own : List ℕ) (plan : Plan) (k now : Kept) (begun : Run) (records : List Record) (later : Run) (text : List ℕ) (journal : Journal D) (w u : World) : Type 0 where
+  pub answered : IsAnswered plan k now later text journal w u
   pub left : Leaves w u (IsKept own plan k.generation begun records w.now)
 
 -- These records were answered, one after the other.
@@ -148,7 +139,8 @@ pub record AnsweredAll {D : Type 0} (tells : Type 0) (own : List ℕ) (begun : R
   pub course : Course own (place_at begun [] []) records acks text (place_at begun log service.replays.begun.items)
   pub said : acks ≡ acks_in log
   pub kept : tells → (plan : Plan) (k : Kept) → StandsFor plan k first w → IsKeeping plan k begun
-      → IsKeptSoFar own plan k begun records (run_after begun log) text now w u
+      → IsKeptSoFar own plan k (kept_through own (place_at begun [] []) records acks text (place_at begun log service.replays.begun.items) course k) begun records
+      (run_after begun log) text now w u
 
 -- A journal and a service that begins with it.
 pub record StartsFrom {D : Type 0} (service : Service) (journal : Journal D) (w : World) : Type 0 where

@@ -1,5 +1,5 @@
 -- How what is handed out is stored, batch by batch.
-use Rattle.std.specs.Prelude.{◌≡◌, ◌≢◌, ℕ, ◌+◌, ◌<◌, ◌≤◌, ◌%◌, ◌^◌, nat_lt, if◌then◌else◌, List, [], ◌∷◌, ◌++◌, length, take, drop, Ok, Err}
+use Rattle.std.specs.Prelude.{zero, suc, ◌≡◌, ◌≢◌, ℕ, ◌+◌, ◌<◌, ◌≤◌, ◌%◌, ◌^◌, nat_lt, if◌then◌else◌, List, [], ◌∷◌, ◌++◌, length, take, drop, Ok, Err}
 use Rattle.std.specs.declared.result.Result.{Result}
 use Rattle.dur_base.specs.declared.entry.Entry.{Entry}
 use Rattle.dur_outside.specs.World.{Image, World, Leaves}
@@ -18,6 +18,7 @@ use Rattle.dur_hub.specs.declared.hub.Hub.{Hub}
 use Rattle.dur_hub.specs.Handed.{acks_by, acks_in}
 use Rattle.dur_hub.specs.Hubs.{Stands}
 use Rattle.dur_hub.specs.Legal.{run_after}
+use Rattle.dur_hub.specs.Readings.{has_pending}
 use Rattle.dur_hub.specs.Runs.{Run}
 use Rattle.dur_rerun.specs.declared.status.Status.{Status}
 use Rattle.dur_rerun.specs.declared.status.Status.TheVariants as status
@@ -46,6 +47,18 @@ kept_next k run =
 -- so many entries more are handed out and durable
 abbrev pub with_stored : ℕ → Run → Run
 with_stored n run = record run { taken = run.taken + n; durable = run.taken + n }
+
+-- What is kept once so many batches of what waits are stored, one after the other, each by the rule of compaction; where fewer
+-- wait, once all is.
+abbrev pub kept_by : ℕ → Kept → Run → Kept
+kept_by zero k run = k
+kept_by (suc n) k run =
+    if has_pending run then kept_by n (kept_next k run) (with_stored (length (next_batch k.appended run)) run) else k
+
+-- What is kept once all that waits is stored by the rule of compaction, history, generation and octets appended: each batch has
+-- one entry at least.
+abbrev pub kept_all : Kept → Run → Kept
+kept_all k run = kept_by (length (pending run)) k run
 
 -- each persistent entry is handed out and durable
 abbrev pub stored_all : Run → Run
@@ -133,7 +146,15 @@ pub record StoresAll (begun : Run) (log : List Event) (hub : Hub) (position : �
   pub leads : run_after begun (log ++ more) ≡ stored_all (run_after begun log)
   pub silent : acks_in (log ++ more) ≡ acks_in log
 
--- What waited is stored: the disk kept this, and a crash since left no less; now it keeps what stands for the later run.
+-- What waited is stored by the rule of compaction, and nothing was written out.
+pub record IsStored {D : Type 0} (plan : Plan) (k : Kept) (run : Run) (journal : Journal D) (w v : World) : Type 0 where
+  pub stands : StandsFor plan (kept_all k run) journal v
+  pub keeping : IsKeeping plan (kept_all k run) (stored_all run)
+  pub rises : k.generation ≤ (kept_all k run).generation
+  pub out : v.now.written ≡ w.now.written
+
+-- Some of what waited is stored: the disk kept this, and a crash since left no less; now it keeps what stands for the later run,
+-- and the rule of compaction leads from both to the same.
 pub record IsStoredUp {D : Type 0} (plan : Plan) (k : Kept) (run later : Run) (journal : Journal D) (w v : World) : Type 0 where
   pub left : Leaves w v (IsStoring plan k.generation run w.now)
   pub now : Kept
@@ -141,6 +162,7 @@ pub record IsStoredUp {D : Type 0} (plan : Plan) (k : Kept) (run later : Run) (j
   pub keeping : IsKeeping plan now later
   pub rises : k.generation ≤ now.generation
   pub out : v.now.written ≡ w.now.written
+  pub rule : kept_all k run ≡ kept_all now later
 
 -- The batches so far.
 pub record StoringSoFar {D : Type 0} (tells : Type 0) (begun : Run) (log : List Event) (first now : Journal D) (hub : Hub) (w u : World) : Type 0 where

@@ -41,7 +41,7 @@ pub(crate) fn answer_all<S: Source, R: Rig>(
     ensures runs { (begun : Run) → Serves begun [] service.old journal.position → (records : List Record)
         × IfSome (S.left input.old) (λ tail. ReadsAs feed.before (feed.left ++ tail) records (ended result))
         × (R.tells → (plan : Plan) (k : Kept) → Stands plan k journal (R.world journal.disk) → IsKeeping plan k begun
-        → RunsOver service.old.own plan k.generation begun records (ended result) (R.world journal.disk) (R.world (rig_of result))) }
+        → RunsOver service.old.own plan k begun records (ended result) (R.world journal.disk) (R.world (rig_of result))) }
     ensures end { ended result ≡ Status.Done → IsAtEnd (S.left input.new) }
     ensures ends { EndsCourse (ended result) }
     ensures read { ended result ≡ Status.ReadFault → Rose (S.faults input.old) (S.faults input.new) }

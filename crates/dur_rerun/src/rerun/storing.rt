@@ -6,7 +6,7 @@ ghost use Rattle.dur_outside.specs.World.{Leaves};
 ghost use Rattle.dur_journal.specs.Kept.{IsOneOf};
 ghost use Rattle.dur_journal.specs.Journals.{IsReady, Stands};
 ghost use Rattle.dur_hub.specs.Legal.{run_after};
-ghost use Rattle.dur_rerun.specs.Rerun.Stores.{HandsOut, IsSettledSome, IsStoredUp, IsStoring, EndsStoring, FailsToStore, MayStore, PassesOn, StoreFails, StoresAll, WhereKeeping, WhereSettled, kept_next, next_batch, rig_of, stored_all, stored_rig};
+ghost use Rattle.dur_rerun.specs.Rerun.Stores.{HandsOut, IsSettledSome, IsStored, IsStoring, EndsStoring, FailsToStore, MayStore, PassesOn, StoreFails, StoresAll, WhereKeeping, WhereSettled, kept_next, next_batch, rig_of, stored_rig};
 
 use crate::Status;
 use dur_hub::Hub;
@@ -151,8 +151,7 @@ pub(crate) fn store_all<R: Rig>(
     ensures run { R.tells → WhereKeeping journal hub.old (R.world journal.disk) (λ plan k run.
         Leaves (R.world journal.disk) (R.world (rig_of result)) (IsStoring plan k.generation run (R.world journal.disk).now)) }
     ensures kept { R.tells → WhereKeeping journal hub.old (R.world journal.disk) (λ plan k run.
-        IfOk result (λ after. IsStoredUp plan k run (stored_all run) after
-        (R.world journal.disk) (R.world after.disk))) }
+        IfOk result (λ after. IsStored plan k run after (R.world journal.disk) (R.world after.disk))) }
     ensures ends { IfErr result (λ e. EndsStoring e.0) }
     ensures fails { R.tells → WhereKeeping journal hub.old (R.world journal.disk) (λ plan k run.
         IfErr result (λ e. FailsToStore plan run e.0)) }

@@ -1,7 +1,7 @@
 use Rattle.std.proofs.Common.{[], sym, subst}
 use Rattle.std.proofs.KnownBytes.{Consumes-nil}
 use Rattle.dur_hub.specs.Runs.{opening}
-use Rattle.dur_rerun.specs.Rerun.Answer.{RunsOver}
+use Rattle.dur_rerun.specs.Rerun.Answer.{RunsOver, kept_first}
 use Rattle.dur_rerun.specs.Input.Prefix.{own_prefix}
 use Rattle.dur_rerun.proofs.Recording.{first_told}
 use Rattle.dur_rerun.proofs.Reruns.{begins_so, starts_so, none_run, serves_so}
@@ -15,8 +15,8 @@ returns-in-Err-clause-runs g c = record {
   reads = first_told _ _ c.args.feed.before c.args.feed.left [] [] c.args.feed (Consumes-nil _) (feeds_first c.args.feed c.requires.fresh);
   runs = λ told.
       let w = g.R.Machine.world c.args.found.journal.disk in
-      subst (λ d. RunsOver (own_prefix c.args.found.epoch c.args.plan) c.args.plan c.args.found.epoch (opening c.args.plan c.args.found.view 0) [] OutOfMemory w (g.R.Machine.world d)) (sym c.close.ensures)
-      (none_run (own_prefix c.args.found.epoch c.args.plan) c.args.plan c.args.found.epoch (opening c.args.plan c.args.found.view 0) w);
+      subst (λ d. RunsOver (own_prefix c.args.found.epoch c.args.plan) c.args.plan (kept_first c.args.found.view c.args.found.epoch) (opening c.args.plan c.args.found.view 0) [] OutOfMemory w (g.R.Machine.world d)) (sym c.close.ensures)
+      (none_run (own_prefix c.args.found.epoch c.args.plan) c.args.plan (kept_first c.args.found.view c.args.found.epoch) (opening c.args.plan c.args.found.view 0) w);
 }
 
 pub answer_all-requires-clause-ready : goal.answer_all-requires-clause-ready
@@ -31,7 +31,7 @@ returns-in-Ok-answer_all-clause-runs g c =
       reads = all.1;
       runs = λ told.
           let w = g.R.Machine.world c.args.found.journal.disk in
-          subst (λ d. RunsOver (own_prefix c.args.found.epoch c.args.plan) c.args.plan c.args.found.epoch (opening c.args.plan c.args.found.view 0) all.0 Done w (g.R.Machine.world d)) (sym c.close-in-Ok-answer_all.ensures)
+          subst (λ d. RunsOver (own_prefix c.args.found.epoch c.args.plan) c.args.plan (kept_first c.args.found.view c.args.found.epoch) (opening c.args.plan c.args.found.view 0) all.0 Done w (g.R.Machine.world d)) (sym c.close-in-Ok-answer_all.ensures)
           (serves_so c.args.plan c.args.found.view c.args.found.epoch c.in-Ok.service c.args.found.journal all.0 Done w (g.R.Machine.world c.in-Ok-answer_all.journal.disk) c.requires.good c.requires.kept c.in-Ok.ensures (c.requires.ready told) (all.2 told));
     }
 

@@ -114,7 +114,7 @@ returns-in-Err-clause-runs g c = λ begun serves.
       i.records,
       stopped_reading c.in-Err.status c.args.feed.before _ _ _ c.args.feed.left i.seen i.records c.records.feed i.consumed i.feeds c.in-Err.ensures.ends c.in-Err.ensures.stops,
       λ told plan k stands keeping.
-          subst (λ d. RunsOver c.args.service.now.own plan k.generation begun i.records c.in-Err.status w (g.R.Machine.world d)) (sym c.close.ensures)
+          subst (λ d. RunsOver c.args.service.now.own plan k begun i.records c.in-Err.status w (g.R.Machine.world d)) (sym c.close.ensures)
           (ends_reading g.R.Machine.tells c.args.service.now.own begun i.records c.args.journal c.records.journal c.records.service w (g.R.Machine.world c.records.journal.disk) c.in-Err.status plan k
           (i.so_far begun serves) c.in-Err.ensures.ends told stands keeping),
     )

@@ -27,7 +27,8 @@ pub batches-preserved : goal.batches-preserved
 batches-preserved g c = record {
   so_far = λ begun log settled.
       stored_more g.R.Machine.tells begun log c.args.journal c.batches.journal c.in-Ok.after c.batches.hub c.store_batch.new.hub (g.R.Machine.world c.args.journal.disk) (g.R.Machine.world c.batches.journal.disk) (g.R.Machine.world c.in-Ok.after.disk)
-      (c.batches.invariant.so_far begun log settled) c.in-Ok.ensures.passes c.in-Ok.ensures.run c.in-Ok.ensures.kept (λ told. g.met.R.Disk.sound told c.batches.journal.disk) (λ told. g.met.R.Disk.sound told c.in-Ok.after.disk);
+      (c.batches.invariant.so_far begun log settled) c.in-Ok.ensures.passes c.in-Ok.ensures.run c.in-Ok.ensures.kept (λ told. g.met.R.Disk.sound told c.batches.journal.disk) (λ told. g.met.R.Disk.sound told c.in-Ok.after.disk)
+      c.has_pending.result c.has_pending.ensures c.batches-test.true;
   later = omega (arith, c.batches.invariant.later, c.in-Ok.ensures.later);
   keeps = c.in-Ok.ensures.keeps ∙ c.batches.invariant.keeps;
 }
