@@ -1,13 +1,16 @@
 #!/usr/bin/env bash
 # Runs commands of the program with each allocation of its process refused in turn, by a `malloc` that stands before the
-# C library's: `list` and `show` of the first example, `rerun` of both parts of the restart, and `check` of its files.
+# C library's: `list` and `show` of the first example, `rerun` of both parts of the restart, and `check` of its files; and
+# `list` and `rerun` of the small inputs of tests/tools/inputs.py: a displaced sample, refused samples, sets and a replay.
 # Each run must end with 0 or 3, or with 6 or 7 where it was the system's call on a file that wanted memory, have written a
 # front of what the whole run writes, and a run of `rerun` must leave files that `check` reads and a later run goes on from. Outside the gate; skipped where cc is missing.
 #
 # Usage: tests/program_memory.sh [PROGRAM], by default the program that is built here.
 set -euo pipefail
 cd "$(dirname "$0")/.."
-command -v cc > /dev/null || { echo "tests/program_memory.sh: skipped, cc is missing"; exit 0; }
+for tool in cc python3; do
+    command -v $tool > /dev/null || { echo "tests/program_memory.sh: skipped, $tool is missing"; exit 0; }
+done
 program=${1:-$(tests/program.sh)}
 work=$(mktemp -d)
 trap 'rm -rf "$work"' EXIT
@@ -64,3 +67,14 @@ each show "$work/first.in" show
 each before "$work/before.in" rerun --dir "$work/files"
 each after "$work/after.in" rerun --dir "$work/files"
 each check /dev/null check --dir "$work/files"
+for name in newest refused closed half rest replay; do
+    python3 tests/tools/inputs.py $name > "$work/$name.in"
+done
+mkdir "$work/rest"
+"$program" rerun --dir "$work/rest" < "$work/half.in" > /dev/null
+for name in newest refused closed; do
+    each "list $name" "$work/$name.in" list
+done
+for name in refused half rest replay; do
+    each "$name" "$work/$name.in" rerun --dir "$work/files"
+done
