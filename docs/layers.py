@@ -3,7 +3,7 @@
 import os
 
 LAYERS = [
-    ("program", [("durability", "command line, faults"), ("dur_rerun", "list, show, rerun, check, late")]),
+    ("program", [("durability", "command line, faults"), ("dur_rerun", "list, learn, show, rerun, ..")]),
     ("service", [("dur_hub", "one admitted history"), ("rel_writer", "sessions, late readers")]),
     ("storage", [("dur_record", "texts of a journal"), ("dur_journal", "two files, any crash")]),
     ("histories", [("dur_store", "history of all topics"), ("dur_sets", "open coherent sets"), ("dur_instances", "history of one topic"), ("dur_view", "definitions and laws")]),

@@ -10,3 +10,4 @@ tests/captures/submessages.sh
 tests/captures/fragments.sh
 tests/captures/show.sh
 tests/captures/list.sh
+tests/captures/learn.sh

@@ -38,6 +38,10 @@ python3 tools/capture_from_hex.py < examples/first/capture.hex | cmp - examples/
 python3 tools/pcap_to_capture.py --summary examples/fastdds/capture.pcap 2> /dev/null | sed 's/^./    &/' > "$folder/summary"
 sed -n '/^    participant /,/^    Note: where /p' examples/README.md | cmp - "$folder/summary" || fails "summary: examples/README.md says something else"
 echo "summary: as examples/README.md says"
+python3 tools/pcap_to_capture.py --plan examples/learn/topics.txt examples/learn/capture.pcap 2> /dev/null |
+    "$program" learn --epoch 3322252354 | sed 's/^./    &/' > "$folder/learnt" || fails "learn: ended with $?"
+sed -n '/^    prefix 01100c67b07f727d$/,/^    end$/p' examples/README.md | cmp - "$folder/learnt" || fails "learn: examples/README.md says something else"
+echo "learn: as examples/README.md says"
 sed -n 's/^    //p' examples/README.md > "$folder/page"
 sed -n '/^prefix 0000000000000000$/,/^end$/p;/^end$/q' "$folder/page" | cmp - examples/two_writers/plan.txt || fails "two_writers: examples/README.md has another plan"
 python3 tools/pcap_to_capture.py --plan examples/two_writers/plan.txt examples/two_writers/capture.pcap 2> /dev/null | "$program" list > "$folder/out" || fails "two_writers: list ended with $?"
