@@ -89,14 +89,14 @@ enough (suc n) zero k r a b = none_kept (suc n) k r (waits_none r b)
 enough (suc n) (suc m) k r a b =
     by_case (has_pending r) refl
     (λ e. enough n m (kept_next k r) (with_stored (length (next_batch k.appended r)) r) (left_fewer n k r e a) (left_fewer m k r e b)) where
-  by_case : (w : Bool) → has_pending r ≡ w
-      → (has_pending r ≡ true
-      → kept_by n (kept_next k r) (with_stored (length (next_batch k.appended r)) r)
-      ≡ kept_by m (kept_next k r) (with_stored (length (next_batch k.appended r)) r))
-      → cond w (kept_by n (kept_next k r) (with_stored (length (next_batch k.appended r)) r)) k
-      ≡ cond w (kept_by m (kept_next k r) (with_stored (length (next_batch k.appended r)) r)) k
-  by_case true e rest = rest e
-  by_case false e rest = refl
+      by_case : (w : Bool) → has_pending r ≡ w
+          → (has_pending r ≡ true
+          → kept_by n (kept_next k r) (with_stored (length (next_batch k.appended r)) r)
+          ≡ kept_by m (kept_next k r) (with_stored (length (next_batch k.appended r)) r))
+          → cond w (kept_by n (kept_next k r) (with_stored (length (next_batch k.appended r)) r)) k
+          ≡ cond w (kept_by m (kept_next k r) (with_stored (length (next_batch k.appended r)) r)) k
+      by_case true e rest = rest e
+      by_case false e rest = refl
 
 -- one batch, and then the others
 next_kept : (k : Kept) (r : Run) → has_pending r ≡ true → kept_all k r ≡ kept_all (kept_next k r) (with_stored (length (next_batch k.appended r)) r)

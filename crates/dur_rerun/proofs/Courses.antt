@@ -206,37 +206,37 @@ pub answered_next : {D : Type 0} (tells : Type 0) (own : List ℕ) (begun : Run)
     → (s : AnsweredAll tells own begun rs first mid old w u) → Handled tells begun s.log r old mid new last u v → (tells → LeavesHandling old mid r u v)
     → AnsweredAll tells own begun (rs ++ r ∷ []) first last new w v
 answered_next tells own begun rs r first mid last old new w u v s h leaves =
-  let start = place_at begun [] [] in
-  let before = place_at begun s.log old.replays.begun.items in
-  let after = place_at begun (s.log ++ h.more) new.replays.begun.items in
-  let calls = subst (λ (l : List ℕ). RecordCalls l before r h.acks h.text after) s.own_is h.calls in
-  record {
-  log = s.log ++ h.more;
-  serves = h.serves;
-  own_is = h.own_is ∙ s.own_is;
-  acks = s.acks ++ h.acks;
-  text = s.text ++ h.text;
-  course = course_more own start before after rs r s.acks h.acks s.text h.text s.course calls;
-  said = ap (λ (l : List Ack). l ++ h.acks) s.said ∙ sym h.said;
-  kept = λ told plan k stands keeping.
-      let so = s.kept told plan k stands keeping in
-      let now = kept_through own start rs s.acks s.text before s.course k in
-      let one = h.kept told plan now so.answered.stands so.answered.keeping in
-      let run = run_after begun (s.log ++ h.more) in
-      let answered : IsAnswered plan k (kept_at old.own before r h.calls.received now) run (s.text ++ h.text) last w v = record {
-        stands = one.stands;
-        keeping = one.keeping;
-        rises = omega (arith, so.answered.rises, one.rises);
-        out = one.out ∙ ap (λ (l : List ℕ). l ++ h.text) so.answered.out ∙ append_assoc w.now.written s.text h.text;
-      } in
-      let same : kept_at old.own before r h.calls.received now ≡ kept_at own before r calls.received now =
-      ap (λ (e : Event). kept_all now (run_by before.run e)) (sym (same_call old.own own before r h.acks h.text after h.calls s.own_is)) in
-      record {
-        answered = subst (λ (x : Kept). IsAnswered plan k x run (s.text ++ h.text) last w v)
-            (same ∙ sym (through_more own start before after rs r s.acks h.acks s.text h.text s.course calls k)) answered;
-        left = left_next tells own begun rs r first mid old w u v plan k s told stands keeping (leaves told);
-      };
-}
+    let start = place_at begun [] [] in
+    let before = place_at begun s.log old.replays.begun.items in
+    let after = place_at begun (s.log ++ h.more) new.replays.begun.items in
+    let calls = subst (λ (l : List ℕ). RecordCalls l before r h.acks h.text after) s.own_is h.calls in
+    record {
+      log = s.log ++ h.more;
+      serves = h.serves;
+      own_is = h.own_is ∙ s.own_is;
+      acks = s.acks ++ h.acks;
+      text = s.text ++ h.text;
+      course = course_more own start before after rs r s.acks h.acks s.text h.text s.course calls;
+      said = ap (λ (l : List Ack). l ++ h.acks) s.said ∙ sym h.said;
+      kept = λ told plan k stands keeping.
+          let so = s.kept told plan k stands keeping in
+          let now = kept_through own start rs s.acks s.text before s.course k in
+          let one = h.kept told plan now so.answered.stands so.answered.keeping in
+          let run = run_after begun (s.log ++ h.more) in
+          let answered : IsAnswered plan k (kept_at old.own before r h.calls.received now) run (s.text ++ h.text) last w v = record {
+            stands = one.stands;
+            keeping = one.keeping;
+            rises = omega (arith, so.answered.rises, one.rises);
+            out = one.out ∙ ap (λ (l : List ℕ). l ++ h.text) so.answered.out ∙ append_assoc w.now.written s.text h.text;
+          } in
+          let same : kept_at old.own before r h.calls.received now ≡ kept_at own before r calls.received now =
+          ap (λ (e : Event). kept_all now (run_by before.run e)) (sym (same_call old.own own before r h.acks h.text after h.calls s.own_is)) in
+          record {
+            answered = subst (λ (x : Kept). IsAnswered plan k x run (s.text ++ h.text) last w v)
+                (same ∙ sym (through_more own start before after rs r s.acks h.acks s.text h.text s.course calls k)) answered;
+            left = left_next tells own begun rs r first mid old w u v plan k s told stands keeping (leaves told);
+          };
+    }
 
 -- the service may go on
 pub serves_on : {D : Type 0} (tells : Type 0) (own : List ℕ) (rs : List Record) (first now : Journal D) (old new : Service) (w u : World) → ((b : Run) × Serves b [] old first.position)

@@ -2,6 +2,7 @@
 
 mod files;
 mod late;
+mod learnt;
 mod rows;
 mod session_link;
 
