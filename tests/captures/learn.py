@@ -1,8 +1,9 @@
 #!/usr/bin/env python3
 """learn.py PROGRAM CAPTURE.pcap PLAN EPOCH: reads growing fronts of a capture with `learn`, from the plan without its writers and
 readers, and compares all writers and readers that it ever tells with those that the tool `--summary` finds in the whole capture:
-all readers of the plan's topics, and the writers that offer at least the durability of their topic. Whoever said farewell is
-in none of the later plans, so that one front does not tell all."""
+all readers of the plan's topics, and the writers that offer at least the durability of their topic, but for those of the
+participant in whose place the service stands, which announces nothing to itself. Whoever said farewell is in none of the later
+plans, so that one front does not tell all."""
 import os
 import struct
 import subprocess
@@ -26,11 +27,12 @@ def lines(text):
 
 with open(plan, encoding="ascii") as file:
     topics = [line for line in file if not line.startswith(("writer ", "reader "))]
+own = topics[0].split(" ")[1].strip() + f"{int(epoch):08x}"
 kinds = {line.split(" ")[1]: line.split(" ")[2] for line in topics if line.startswith("topic ")}
 announced = set()
 for line in tool("--summary", capture).decode("ascii").splitlines():
     word = line.split(" ")
-    if word[0] in ("writer", "reader") and word[2] == "topic" and word[3] in kinds:
+    if word[0] in ("writer", "reader") and word[2] == "topic" and word[3] in kinds and not word[1].startswith(own):
         if word[0] == "reader" or KINDS.index(word[-1]) >= KINDS.index(kinds[word[3]]):
             announced.add((word[0], word[1], word[3]))
 octets = tool(capture)
