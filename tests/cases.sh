@@ -5,9 +5,9 @@
 #     cases.sh [PROGRAM]
 set -eu
 cd "$(dirname "$0")/.."
-built=17 # up to which of the stages that the cases know these commands are built
+built=18 # up to which of the stages that the cases know these commands are built
 cases=${CASES:-../shared/cases}
 if [ ! -f "$cases/run_cases.py" ]; then echo "tests/cases.sh: skipped, no cases in $cases"; exit 0; fi
 if ! command -v python3 > /dev/null; then echo "tests/cases.sh: skipped, python3 is missing"; exit 0; fi
 program=${1:-$(tests/program.sh)}
-python3 "$cases/run_cases.py" "$program" --stage "$built" --commands list,show,words,rerun,check
+python3 "$cases/run_cases.py" "$program" --stage "$built" --commands list,show,words,rerun,check,learn
