@@ -393,17 +393,6 @@ still-shallow : (depth : Option ℕ) (cs : List Late) → EachLate (λ c. not (r
 still-shallow depth cs each = EachLate-weaken (λ c. not (reaches depth c.later) ≡ true) (λ c. reaches depth c.later ≡ false) (λ c t. not-false-is (reaches depth c.later) t) cs each
 
 -- what is kept after a change
--- of two of an instance the first has as many later ones or more, the new one with them
-pub falls-added : (s : Topic) (cells : List Cell) (regs : List Registered) (changes : List Change) → IsLaid s cells regs changes → (m by : ℕ) (w : Guid) (n ar : ℕ) (x : Sample) → is_change x.act ≡ true → (q : Option ℕ) (count : ℕ)
-    → count ≡ count_after s.depth (count_in cells x.key) → count < 2 ^ 32
-    → Falls (lates_of (with_cell record { key = x.key; disposed = disposes x.act; quiet = q; count = count } cells) (changes ++ record { at = count; writer = w; number = n; arrived = Some ar; sample = x } ∷ []))
-falls-added s cells regs changes laid m by w n ar x change q count count-is range =
-    let e = Effect m by w n ar x in
-    let lates = lates_of cells changes in
-    let new-is : late_by e ≡ record { later = 0; writer = w; number = n; arrived = Some ar; sample = x } ∷ [] = ap (λ b. cond b (record { later = 0; writer = w; number = n; arrived = Some ar; sample = x } ∷ []) []) change in
-    subst Falls (sym (lates-follow s cells regs changes laid m by w n ar x change q count count-is range ∙ ap (λ l. map (late_after s.depth e) lates ++ l) new-is))
-    (falls-push (map (late_after s.depth e) lates) record { later = 0; writer = w; number = n; arrived = Some ar; sample = x } (falls-after s.depth e lates laid.kept.falls) (before-new record { later = 0; writer = w; number = n; arrived = Some ar; sample = x } refl (map (late_after s.depth e) lates)))
-
 pub record After (s : Topic) (cells cells2 : List Cell) (regs regs2 : List Registered) (changes changes2 : List Change) (e : TopicEvent) : Type 0 where
   pub laid : IsLaid s cells2 regs2 changes2
   pub same : SameFrom (time_of e) (begun_by s (rows_of cells regs) (lates_of cells changes) ▹ e) (begun_by s (rows_of cells2 regs2) (lates_of cells2 changes2))

@@ -43,11 +43,6 @@ abbrev pub is_asked : Option Key → Key → Bool
 is_asked None k = true
 is_asked (Some j) k = is_key k j
 
--- whether a change that may be kept is one of those that are asked for, and left
-abbrev pub is_left_at : List Cell → Option ℕ → ℕ → ℕ → List Sample → Option Key → Option Change → Bool
-is_left_at cells depth longest m ss of None = false
-is_left_at cells depth longest m ss of (Some c) = is_asked of c.sample.key && is_left cells depth longest m ss c
-
 abbrev pub count_asked : Option Key → List Sample → ℕ
 count_asked of ss = count_by (λ s. is_asked of s.key) ss
 

@@ -1,12 +1,11 @@
 //! Kept changes, in the order of effect.
 
-ghost use Rattle.std.specs.Prelude.{◌≡◌, IfOk};
+ghost use Rattle.std.specs.Prelude.{◌≡◌, not, filter, ◌≤◌, vec_len, vec_capacity};
 ghost use Rattle.dur_view.specs.Fates.{is_long, is_over_by, reaches};
-ghost use Rattle.dur_instances.specs.Layout.{is_gone_in};
-ghost use Rattle.dur_instances.specs.Places.{is_past};
+ghost use Rattle.dur_instances.specs.Layout.{late_of, is_gone_in, is_deep_in};
 
-use crate::cells::{Sorted, is_purged, raised};
-use dur_base::{Guid, Key, Number, OutOfMemory, Sample, Ticks};
+use crate::cells::{Sorted, count_of, is_purged, raised};
+use dur_base::{Guid, Number, Sample, Ticks};
 
 /// A kept change.
 #[derive(Drop)]
@@ -17,29 +16,6 @@ pub struct Change {
     pub number: Number,
     pub arrived: Option<Ticks>,
     pub sample: Sample,
-}
-
-impl Change {
-    /// The key of its instance.
-    pub fn key(&self) -> Key
-        ensures { result ≡ self.now.sample.key }
-    {
-        self.sample.key
-    }
-
-    /// The change, whose payload shares its octets.
-    pub fn copy(&self) -> Result<Change, OutOfMemory>
-        ensures { IfOk result (λ c. c ≡ self.now) }
-    {
-        let sample = self.sample.copy()?;
-        Ok(Change {
-            at: self.at,
-            writer: self.writer,
-            number: self.number,
-            arrived: self.arrived,
-            sample,
-        })
-    }
 }
 
 /// Whether a quiet stretch that began then is longer than the delay, in ticks of 2^-32 s.
@@ -78,9 +54,28 @@ pub fn is_gone(cells: &Sorted, longest: u64, now: Ticks, change: &Change) -> boo
     is_over(&change.sample, now) || is_purged(cells, longest, now, change.sample.key)
 }
 
-/// Whether as many later ones came as the topic is deep, where the counter of its instance is this.
-pub fn is_past(depth: Option<u32>, count: u32, change: &Change) -> bool
-    ensures { result ≡ is_past depth count change.now }
+/// Whether as many later changes of its instance came as the topic is deep.
+pub fn is_deep(cells: &Sorted, depth: Option<u32>, change: &Change) -> bool
+    ensures { result ≡ is_deep_in cells.now depth change.now }
 {
+    let count = count_of(cells, change.sample.key);
     reaches(depth, raised(change.at, count))
+}
+
+/// Forgets the changes that are expired or purged at the moment.
+pub fn sweep(changes: &mut Vec<Change>, cells: &Sorted, longest: u64, now: Ticks)
+    ensures items { changes.new.items ≡ filter (λ c. not (is_gone_in cells.now longest now c)) changes.old.items }
+    ensures len { vec_len changes.new ≤ vec_len changes.old }
+    ensures capacity { vec_capacity changes.new ≡ vec_capacity changes.old }
+{
+    changes.retain(|c| !is_gone(cells, longest, now, c));
+}
+
+/// Forgets the changes after which as many came as the topic is deep.
+pub fn displace(changes: &mut Vec<Change>, cells: &Sorted, depth: Option<u32>)
+    ensures items { changes.new.items ≡ filter (λ c. not (is_deep_in cells.now depth c)) changes.old.items }
+    ensures len { vec_len changes.new ≤ vec_len changes.old }
+    ensures capacity { vec_capacity changes.new ≡ vec_capacity changes.old }
+{
+    changes.retain(|c| !is_deep(cells, depth, c));
 }

@@ -1,13 +1,11 @@
 //! When something that is kept falls due.
 
 ghost use Rattle.std.specs.Prelude.{◌≡◌, min, nat_lt};
-ghost use Rattle.dur_instances.specs.Places.{kept_in};
-ghost use Rattle.dur_instances.specs.Due.{due_at, purged_from, expired_from, due_cells, due_changes, due_of, due_with, due_by};
+ghost use Rattle.dur_instances.specs.Due.{purged_from, expired_from, due_cells, due_changes, due_of};
 
 use crate::cells::Cell;
 use crate::changes::Change;
-use crate::links::Place;
-use dur_base::{Sample, Ticks};
+use dur_base::Ticks;
 
 /// Whether a moment comes before another.
 pub fn is_before(a: Ticks, b: Ticks) -> bool
@@ -52,43 +50,22 @@ fn due_cells(longest: u64, cells: &[Cell]) -> u64
     due
 }
 
-// The first moment at which the change that is kept there is expired, or the last moment.
-fn due_at(change: &Option<Change>) -> u64
-    ensures { result ≡ due_at change.now }
-{
-    match change {
-        Some(change) => expired_from(change.sample.lifespan, change.sample.stamp),
-        None => u64::MAX,
-    }
-}
-
-fn due_changes(places: &[Place]) -> u64
-    ensures { result ≡ due_changes (kept_in places.now) }
+fn due_changes(changes: &[Change]) -> u64
+    ensures { result ≡ due_changes changes.now }
 {
     let mut due = u64::MAX;
-    for place in places {
-        due = earlier(due, due_at(&place.change));
+    for change in changes {
+        due = earlier(
+            due,
+            expired_from(change.sample.lifespan, change.sample.stamp),
+        );
     }
     due
 }
 
-/// The moment, or an earlier one at which an instance that is quiet from this one on is purged.
-pub fn due_with(longest: u64, quiet: &Option<Ticks>, due: Ticks) -> Ticks
-    ensures { result ≡ due_with longest quiet.now due }
-{
-    Ticks(earlier(due.0, purged_from(longest, *quiet)))
-}
-
-/// The moment, or an earlier one at which the sample is expired.
-pub fn due_by(sample: &Sample, due: Ticks) -> Ticks
-    ensures { result ≡ due_by sample.now.lifespan sample.now.stamp due }
-{
-    Ticks(earlier(due.0, expired_from(sample.lifespan, sample.stamp)))
-}
-
 /// The least moment at which an instance is purged or a change expires.
-pub fn due_of(longest: u64, cells: &[Cell], places: &[Place]) -> Ticks
-    ensures { result ≡ due_of longest cells.now (kept_in places.now) }
+pub fn due_of(longest: u64, cells: &[Cell], changes: &[Change]) -> Ticks
+    ensures { result ≡ due_of longest cells.now changes.now }
 {
-    Ticks(earlier(due_cells(longest, cells), due_changes(places)))
+    Ticks(earlier(due_cells(longest, cells), due_changes(changes)))
 }

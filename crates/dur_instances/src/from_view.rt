@@ -6,7 +6,6 @@ ghost use Rattle.dur_instances.specs.FromView.{cell_of_line, lines_in, with_all,
 
 use crate::cells::Cell;
 use crate::changes::Change;
-use crate::order::Changes;
 use crate::registered::{Registered, register};
 use crate::within::push;
 use dur_base::{Key, OutOfMemory};
@@ -124,16 +123,13 @@ pub fn changes_of(
     at: u32,
     lines: &[Instance],
     kept: &[Kept],
-) -> Result<Changes, OutOfMemory>
+) -> Result<Vec<Change>, OutOfMemory>
     ensures { IfOk result (λ l. l.items ≡ changes_in depth at lines.now kept.now) }
 {
-    let mut list = Changes::new(alloc);
+    let mut list = Vec::new(alloc);
     for one in kept {
         match counted(lines, at, one) {
-            Some(changes) => {
-                list.reserve(1)?;
-                list.push(change_of(depth, changes, one)?);
-            }
+            Some(changes) => push(&mut list, change_of(depth, changes, one)?)?,
             None => {}
         }
     }

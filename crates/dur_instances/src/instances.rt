@@ -2,15 +2,14 @@
 
 ghost use Rattle.std.specs.Prelude.{◌≡◌, ℕ, ◌+◌, ◌*◌, ◌^◌, ◌<◌, ◌≤◌, ◌&&◌, true, false, Some, None, if◌then◌else◌, List, slice_get, OnOk, IfOk};
 ghost use Rattle.dur_base.specs.declared.sample.Sample.{Sample as Told};
-ghost use Rattle.dur_base.specs.declared.sample.Act.TheVariants.{Unregister as Unregisters};
+ghost use Rattle.dur_base.specs.declared.sample.Act.TheVariants.{Unregister as Unregisters, Marker as Marks};
 ghost use Rattle.dur_view.specs.Identities.{Guid as Octets, Key as KeyOctets};
 ghost use Rattle.dur_view.specs.Words.{is_change};
 ghost use Rattle.dur_view.specs.declared.change.TopicEvent.{TopicEvent};
 ghost use Rattle.dur_view.specs.declared.change.TopicEvent.TheVariants.{Effect, Gone};
 ghost use Rattle.dur_view.specs.Past.{Past, Begin, part, ◌▹◌, ◌▹▹◌};
 ghost use Rattle.dur_view.specs.IsSound.{IsSound};
-ghost use Rattle.dur_instances.specs.Layout.{places};
-ghost use Rattle.dur_view.specs.Fates.{is_long, is_nobody, disposes, settings, existing, entitled};
+ghost use Rattle.dur_view.specs.Fates.{is_long, disposes, settings, existing, entitled};
 ghost use Rattle.dur_view.specs.Refused.{passed};
 ghost use Rattle.dur_instances.specs.Trimmed.{row_at, blank};
 ghost use Rattle.dur_view.specs.Snapshot.{snap};
@@ -20,13 +19,13 @@ ghost use Rattle.dur_instances.specs.Kept.{NoneIsOver};
 ghost use Rattle.dur_instances.specs.Would.{TakeEffect};
 
 use crate::cells::{self, Cell, Sorted, count_after, count_of, put, settle};
-use crate::changes::Change;
-use crate::due::{due_by, due_of, due_with, is_before};
+use crate::changes::{self, Change};
+use crate::due::{due_of, is_before};
 use crate::from_view::{cells_of, changes_of, registered_of};
 use crate::lines::{kept_over, lines_over};
 use crate::listing::entitled_over;
-use crate::order::Changes;
 use crate::registered::{Registered, enroll, is_nobody, leave, leave_all};
+use crate::within::push_within;
 use crate::would::would_over;
 use dur_base::{Act, Guid, Key, List, Number, OutOfMemory, Sample, Ticks};
 use dur_qos::Topic;
@@ -42,11 +41,11 @@ pub struct Instances {
     due: Ticks,
     cells: Vec<Cell>,
     registered: Vec<Registered>,
-    changes: Changes,
+    changes: Vec<Change>,
 }
 
 impl Model for Instances {
-    ghost use Rattle.std.specs.Prelude.{◌≤◌, ◌-◌, ◌*◌, ◌^◌, min, vec_len, vec_capacity};
+    ghost use Rattle.std.specs.Prelude.{◌≡◌, ◌-◌, ◌*◌, ◌^◌, min, vec_len, vec_capacity};
     ghost use Rattle.dur_instances.specs.Due.{due_of};
     ghost use Rattle.dur_instances.specs.Trimmed.{Trimmed, trimmed_code};
     ghost use Rattle.dur_instances.specs.Layout.{rows_of, lates_of, IsLaid};
@@ -55,9 +54,9 @@ impl Model for Instances {
 
     ghost coded = { trimmed_code };
 
-    ghost view = { λ s. record { settings = s.topic; last = s.last; rows = rows_of s.cells.items s.registered.items; kept = lates_of s.cells.items s.changes.items; room = min (vec_capacity s.cells - vec_len s.cells) (min (vec_capacity s.registered - vec_len s.registered) s.changes.room) } };
+    ghost view = { λ s. record { settings = s.topic; last = s.last; rows = rows_of s.cells.items s.registered.items; kept = lates_of s.cells.items s.changes.items; room = min (vec_capacity s.cells - vec_len s.cells) (min (vec_capacity s.registered - vec_len s.registered) (vec_capacity s.changes - vec_len s.changes)) } };
 
-    ghost invariant = { λ s. IsLaid s.topic s.cells.items s.registered.items s.changes.items × (s.due ≤ due_of (s.topic.delay * 2 ^ 32) s.cells.items s.changes.items) };
+    ghost invariant = { λ s. IsLaid s.topic s.cells.items s.registered.items s.changes.items × (s.due ≡ due_of (s.topic.delay * 2 ^ 32) s.cells.items s.changes.items) };
 }
 
 impl Instances {
@@ -71,7 +70,7 @@ impl Instances {
             due: Ticks(u64::MAX),
             cells: Vec::new(alloc),
             registered: Vec::new(alloc),
-            changes: Changes::new(alloc),
+            changes: Vec::new(alloc),
         }
     }
 
@@ -95,11 +94,18 @@ impl Instances {
         Ok(Instances {
             topic: topic.copy(),
             last: view.last,
-            due: due_of(longest, &cells, changes.places()),
+            due: due_of(longest, &cells, &changes),
             cells,
             registered,
             changes,
         })
+    }
+
+    /// The moment of the last call that changed it, in ticks of 2^-32 s.
+    pub fn last(&self) -> Ticks
+        ensures { result ≡ self.now.last }
+    {
+        self.last
     }
 
     /// Makes places for so many changes more. On want of memory what is kept is as it was.
@@ -115,7 +121,10 @@ impl Instances {
             Ok(()) => {}
             Err(_) => return Err(OutOfMemory),
         }
-        self.changes.reserve(more)
+        match self.changes.reserve(more) {
+            Ok(()) => Ok(()),
+            Err(_) => Err(OutOfMemory),
+        }
     }
 
     /// Forgets what is expired or purged at the moment: nothing, where the moment is before the first at which anything is.
@@ -133,10 +142,9 @@ impl Instances {
             return;
         }
         let longest = self.topic.delay as u64 * 4_294_967_296;
-        self.changes
-            .sweep(&Sorted::of(&self.cells), longest, moment);
+        changes::sweep(&mut self.changes, &Sorted::of(&self.cells), longest, moment);
         cells::sweep(&mut self.cells, longest, moment);
-        self.due = due_of(longest, &self.cells, self.changes.places());
+        self.due = due_of(longest, &self.cells, &self.changes);
         self.last = moment;
     }
 
@@ -159,15 +167,12 @@ impl Instances {
         ensures room { self.old.room ≤ self.new.room + 1 }
     {
         self.sweep(moment);
-        let due = due_by(&sample, self.due);
         let key = sample.key;
         let act = sample.act;
         let depth = self.topic.depth;
         enroll(&mut self.registered, act, Registered { key, by: writer });
         let disposed = disposes(act);
-        let quiet = quiet_from(disposed, &self.registered, key, moment);
-        let longest = self.topic.delay as u64 * 4_294_967_296;
-        let due = due_with(longest, &quiet, due);
+        let quiet = quiet_from(disposed, is_nobody(&self.registered, key), moment);
         let count = count_after(depth, count_of(&Sorted::of(&self.cells), key));
         let cell = Cell {
             key,
@@ -183,8 +188,10 @@ impl Instances {
             arrived: Some(arrived),
             sample,
         };
-        self.changes.add(change, depth, count);
-        self.due = due;
+        push_within(&mut self.changes, change);
+        changes::displace(&mut self.changes, &Sorted::of(&self.cells), depth);
+        let longest = self.topic.delay as u64 * 4_294_967_296;
+        self.due = due_of(longest, &self.cells, &self.changes);
     }
 
     /// An unregister of the writer at a place of the view, from 0, takes effect.
@@ -199,7 +206,21 @@ impl Instances {
         leave(&mut self.registered, &Registered { key, by: writer });
         settle(&mut self.cells, &self.registered, moment);
         let longest = self.topic.delay as u64 * 4_294_967_296;
-        self.due = due_with(longest, &Some(moment), self.due);
+        self.due = due_of(longest, &self.cells, &self.changes);
+    }
+
+    /// A marker takes effect: it speaks of no instance.
+    pub fn marker(&mut self, moment: Ticks)
+        requires { self.old.last ≤ moment }
+        ensures stands { (p : Past) (by : ℕ) (w : Octets) (n a : ℕ) (s : Told) → s.act ≡ Marks → Stands self.old p → Stands self.new (p ▹ Effect moment by w n a s) }
+        ensures settings { self.new.settings ≡ self.old.settings }
+        ensures last { self.new.last ≡ moment }
+        ensures room { self.old.room ≤ self.new.room }
+    {
+        self.sweep(moment);
+        settle(&mut self.cells, &self.registered, moment);
+        let longest = self.topic.delay as u64 * 4_294_967_296;
+        self.due = due_of(longest, &self.cells, &self.changes);
     }
 
     /// The writer at a place of the view, from 0, is lost.
@@ -214,7 +235,7 @@ impl Instances {
         leave_all(&mut self.registered, writer);
         settle(&mut self.cells, &self.registered, moment);
         let longest = self.topic.delay as u64 * 4_294_967_296;
-        self.due = due_with(longest, &Some(moment), self.due);
+        self.due = due_of(longest, &self.cells, &self.changes);
     }
 
     /// The first limit of the topic that is passed when these samples take effect at the moment, if any. Nothing is forgotten.
@@ -225,7 +246,7 @@ impl Instances {
         would_over(
             &self.topic,
             &Sorted::of(&self.cells),
-            self.changes.places(),
+            &self.changes,
             moment,
             changes,
         )
@@ -237,8 +258,13 @@ impl Instances {
         ensures { IfOk result (λ s. (p : Past) → Stands self.now p → s.changes ≡ snap p moment) }
     {
         let longest = self.topic.delay as u64 * 4_294_967_296;
-        let kept = self.changes.list(alloc)?;
-        let changes = entitled_over(alloc, &kept, &Sorted::of(&self.cells), longest, moment)?;
+        let changes = entitled_over(
+            alloc,
+            &self.changes,
+            &Sorted::of(&self.cells),
+            longest,
+            moment,
+        )?;
         Ok(Snapshot { changes })
     }
 
@@ -254,14 +280,13 @@ impl Instances {
     {
         let longest = self.topic.delay as u64 * 4_294_967_296;
         let depth = self.topic.depth;
-        let kept = self.changes.list(alloc)?;
         let lines = lines_over(
             alloc,
             at,
             depth,
             &Sorted::of(&self.cells),
             &self.registered,
-            &kept,
+            &self.changes,
             longest,
             moment,
         )?;
@@ -275,12 +300,11 @@ impl Instances {
     {
         let longest = self.topic.delay as u64 * 4_294_967_296;
         let depth = self.topic.depth;
-        let changes = self.changes.list(alloc)?;
         let kept = kept_over(
             alloc,
             depth,
             &Sorted::of(&self.cells),
-            &changes,
+            &self.changes,
             longest,
             moment,
         )?;
@@ -295,10 +319,10 @@ fn disposes(act: Act) -> bool
 }
 
 // When an instance becomes quiet at the moment, if it does.
-fn quiet_from(disposed: bool, list: &[Registered], key: Key, moment: Ticks) -> Option<Ticks>
-    ensures { result ≡ (if disposed && is_nobody (places list.now key) then Some moment else None) }
+fn quiet_from(disposed: bool, nobody: bool, moment: Ticks) -> Option<Ticks>
+    ensures { result ≡ (if disposed && nobody then Some moment else None) }
 {
-    if disposed && is_nobody(list, key) {
+    if disposed && nobody {
         Some(moment)
     } else {
         None

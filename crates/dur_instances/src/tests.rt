@@ -127,7 +127,7 @@ fn quiets(alloc: Global, plan: &Plan) -> Option<(Option<Ticks>, usize, Option<Ti
     requires { GoodPlan plan.now }
 {
     let mut instances = begun(alloc, plan)?;
-    instances.reserve(1).ok()?;
+    instances.reserve(2).ok()?;
     let first = change(alloc, Act::Dispose)?;
     instances.apply(Ticks(5), 0, Number::one(), W, Ticks(5), first);
     instances.unregister(Ticks(6), 0, AA);
@@ -139,7 +139,6 @@ fn quiets(alloc: Global, plan: &Plan) -> Option<(Option<Ticks>, usize, Option<Ti
         .quiet;
     instances.sweep(Ticks(7));
     let stand = instances.instances(alloc, 0, Ticks(7)).ok()?.len();
-    instances.reserve(1).ok()?;
     let second = change(alloc, Act::Dispose)?;
     instances.apply(Ticks(8), 1, Number::one(), W, Ticks(8), second);
     instances.lost(Ticks(9), 1);

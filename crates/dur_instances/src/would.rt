@@ -6,12 +6,10 @@ ghost use Rattle.dur_view.specs.Words.{is_change};
 ghost use Rattle.dur_view.specs.Fates.{is_long};
 ghost use Rattle.dur_view.specs.Refused.{is_over};
 ghost use Rattle.dur_instances.specs.Layout.{late_of, cells_there};
-ghost use Rattle.dur_instances.specs.Places.{kept_in};
-ghost use Rattle.dur_instances.specs.Would.{is_left_at, later_in, is_left, fresh_of, left_after, is_asked, count_asked, is_there_in, new_keys, any_there, passed_after};
+ghost use Rattle.dur_instances.specs.Would.{later_in, is_left, fresh_of, left_after, is_asked, count_asked, is_there_in, new_keys, any_there, passed_after};
 
 use crate::cells::{Cell, Sorted, count_of, find, raised};
 use crate::changes::{Change, is_gone, is_long, is_over as is_expired};
-use crate::links::Place;
 use dur_base::{Act, Key, Sample, Ticks};
 use dur_qos::Topic;
 use dur_view::Limit;
@@ -80,40 +78,21 @@ fn is_left(
         && !reaches(depth, later as u128 + later_in(samples, key) as u128)
 }
 
-// Whether a change of the instance, or of all, is kept there and left.
-fn is_left_at(
-    cells: &Sorted,
-    kept: &Option<Change>,
-    depth: Option<u32>,
-    longest: u64,
-    now: Ticks,
-    samples: &[Sample],
-    of: &Option<Key>,
-) -> bool
-    ensures { result ≡ is_left_at cells.now depth longest now samples.now of.now kept.now }
-{
-    match kept {
-        Some(change) => is_asked(of, change.sample.key)
-            && is_left(cells, depth, longest, now, samples, change),
-        None => false,
-    }
-}
-
 // How many kept changes of the instance, or of all, are left.
 fn kept_left(
     cells: &Sorted,
-    places: &[Place],
+    changes: &[Change],
     depth: Option<u32>,
     longest: u64,
     now: Ticks,
     samples: &[Sample],
     of: &Option<Key>,
 ) -> usize
-    ensures { result ≡ count_by (λ c. is_asked of.now c.sample.key) (filter (is_left cells.now depth longest now samples.now) (kept_in places.now)) }
+    ensures { result ≡ count_by (λ c. is_asked of.now c.sample.key) (filter (is_left cells.now depth longest now samples.now) changes.now) }
 {
     let mut count = 0;
-    for place in places {
-        if is_left_at(cells, &place.change, depth, longest, now, samples, of) {
+    for change in changes {
+        if is_asked(of, change.sample.key) && is_left(cells, depth, longest, now, samples, change) {
             count += 1;
         }
     }
@@ -145,16 +124,16 @@ fn fresh_left(depth: Option<u32>, now: Ticks, samples: &[Sample], of: &Option<Ke
 // How many changes of the instance, or of all, are left when the samples took effect at the moment.
 fn count_left(
     cells: &Sorted,
-    places: &[Place],
+    changes: &[Change],
     depth: Option<u32>,
     longest: u64,
     now: Ticks,
     samples: &[Sample],
     of: &Option<Key>,
 ) -> u128
-    ensures { result ≡ count_asked of.now (left_after cells.now (kept_in places.now) depth longest now samples.now) }
+    ensures { result ≡ count_asked of.now (left_after cells.now changes.now depth longest now samples.now) }
 {
-    let kept = kept_left(cells, places, depth, longest, now, samples, of);
+    let kept = kept_left(cells, changes, depth, longest, now, samples, of);
     kept as u128 + fresh_left(depth, now, samples, of) as u128
 }
 
@@ -199,19 +178,27 @@ fn count_new(cells: &Sorted, longest: u64, now: Ticks, samples: &[Sample]) -> us
 fn has_more(
     limit: Option<u32>,
     cells: &Sorted,
-    places: &[Place],
+    changes: &[Change],
     depth: Option<u32>,
     longest: u64,
     now: Ticks,
     samples: &[Sample],
     cell: &Cell,
 ) -> bool
-    ensures { result ≡ (not (is_long cell.now.quiet longest now) && is_over limit (count_asked (Some cell.now.key) (left_after cells.now (kept_in places.now) depth longest now samples.now))) }
+    ensures { result ≡ (not (is_long cell.now.quiet longest now) && is_over limit (count_asked (Some cell.now.key) (left_after cells.now changes.now depth longest now samples.now))) }
 {
     !is_long(cell.quiet, longest, now)
         && is_over(
             limit,
-            count_left(cells, places, depth, longest, now, samples, &Some(cell.key)),
+            count_left(
+                cells,
+                changes,
+                depth,
+                longest,
+                now,
+                samples,
+                &Some(cell.key),
+            ),
         )
 }
 
@@ -219,16 +206,16 @@ fn has_more(
 fn any_kept_over(
     limit: Option<u32>,
     cells: &Sorted,
-    places: &[Place],
+    changes: &[Change],
     depth: Option<u32>,
     longest: u64,
     now: Ticks,
     samples: &[Sample],
 ) -> bool
-    ensures { result ≡ list_any (λ c. not (is_long c.quiet longest now) && is_over limit (count_asked (Some c.key) (left_after cells.now (kept_in places.now) depth longest now samples.now))) cells.now }
+    ensures { result ≡ list_any (λ c. not (is_long c.quiet longest now) && is_over limit (count_asked (Some c.key) (left_after cells.now changes.now depth longest now samples.now))) cells.now }
 {
     for cell in cells.as_slice() {
-        if has_more(limit, cells, places, depth, longest, now, samples, cell) {
+        if has_more(limit, cells, changes, depth, longest, now, samples, cell) {
             return true;
         }
     }
@@ -239,21 +226,21 @@ fn any_kept_over(
 fn brings_more(
     limit: Option<u32>,
     cells: &Sorted,
-    places: &[Place],
+    changes: &[Change],
     depth: Option<u32>,
     longest: u64,
     now: Ticks,
     samples: &[Sample],
     sample: &Sample,
 ) -> bool
-    ensures { result ≡ (is_change sample.now.act && is_over limit (count_asked (Some sample.now.key) (left_after cells.now (kept_in places.now) depth longest now samples.now))) }
+    ensures { result ≡ (is_change sample.now.act && is_over limit (count_asked (Some sample.now.key) (left_after cells.now changes.now depth longest now samples.now))) }
 {
     is_change(sample.act)
         && is_over(
             limit,
             count_left(
                 cells,
-                places,
+                changes,
                 depth,
                 longest,
                 now,
@@ -267,116 +254,47 @@ fn brings_more(
 fn any_new_over(
     limit: Option<u32>,
     cells: &Sorted,
-    places: &[Place],
+    changes: &[Change],
     depth: Option<u32>,
     longest: u64,
     now: Ticks,
     samples: &[Sample],
 ) -> bool
-    ensures { result ≡ list_any (λ s. is_change s.act && is_over limit (count_asked (Some s.key) (left_after cells.now (kept_in places.now) depth longest now samples.now))) samples.now }
+    ensures { result ≡ list_any (λ s. is_change s.act && is_over limit (count_asked (Some s.key) (left_after cells.now changes.now depth longest now samples.now))) samples.now }
 {
     for sample in samples {
-        if brings_more(limit, cells, places, depth, longest, now, samples, sample) {
+        if brings_more(limit, cells, changes, depth, longest, now, samples, sample) {
             return true;
         }
     }
     false
 }
 
-// Whether more instances exist than the limit, when the samples took effect.
-fn are_instances_over(
-    limit: Option<u32>,
-    cells: &Sorted,
-    longest: u64,
-    now: Ticks,
-    samples: &[Sample],
-) -> bool
-    ensures { result ≡ is_over limit (length (cells_there cells.now longest now) + new_keys (is_there_in cells.now longest now) samples.now) }
-{
-    match limit {
-        None => false,
-        Some(_) => {
-            let there = count_there(cells, longest, now) as u128;
-            is_over(
-                limit,
-                there + count_new(cells, longest, now, samples) as u128,
-            )
-        }
-    }
-}
-
-// Whether an instance that exists when the samples took effect has more changes left than the limit.
-fn is_any_over(
-    limit: Option<u32>,
-    cells: &Sorted,
-    places: &[Place],
-    depth: Option<u32>,
-    longest: u64,
-    now: Ticks,
-    samples: &[Sample],
-) -> bool
-    ensures { result ≡ any_there cells.now longest now samples.now (λ k. is_over limit (count_asked (Some k) (left_after cells.now (kept_in places.now) depth longest now samples.now))) }
-{
-    match limit {
-        None => false,
-        Some(_) => any_kept_over(limit, cells, places, depth, longest, now, samples)
-            || any_new_over(limit, cells, places, depth, longest, now, samples),
-    }
-}
-
-// Whether more changes are left than the limit, when the samples took effect.
-fn are_changes_over(
-    limit: Option<u32>,
-    cells: &Sorted,
-    places: &[Place],
-    depth: Option<u32>,
-    longest: u64,
-    now: Ticks,
-    samples: &[Sample],
-) -> bool
-    ensures { result ≡ is_over limit (count_asked None (left_after cells.now (kept_in places.now) depth longest now samples.now)) }
-{
-    match limit {
-        None => false,
-        Some(_) => is_over(
-            limit,
-            count_left(cells, places, depth, longest, now, samples, &None),
-        ),
-    }
-}
-
 /// The first limit that is passed when the samples took effect at the moment.
 pub fn would_over(
     topic: &Topic,
     cells: &Sorted,
-    places: &[Place],
+    changes: &[Change],
     now: Ticks,
     samples: &[Sample],
 ) -> Option<Limit>
-    ensures { result ≡ passed_after topic.now cells.now (kept_in places.now) (topic.now.delay * 2 ^ 32) now samples.now }
+    ensures { result ≡ passed_after topic.now cells.now changes.now (topic.now.delay * 2 ^ 32) now samples.now }
 {
     let longest = topic.delay as u64 * 4_294_967_296;
-    let depth = topic.depth;
-    if are_instances_over(topic.max_instances, cells, longest, now, samples) {
-        Some(Limit::Instances)
-    } else if is_any_over(
-        topic.max_per_instance,
-        cells,
-        places,
-        depth,
-        longest,
-        now,
-        samples,
+    let there = count_there(cells, longest, now) as u128;
+    let most = topic.max_per_instance;
+    if is_over(
+        topic.max_instances,
+        there + count_new(cells, longest, now, samples) as u128,
     ) {
+        Some(Limit::Instances)
+    } else if any_kept_over(most, cells, changes, topic.depth, longest, now, samples)
+        || any_new_over(most, cells, changes, topic.depth, longest, now, samples)
+    {
         Some(Limit::PerInstance)
-    } else if are_changes_over(
+    } else if is_over(
         topic.max_samples,
-        cells,
-        places,
-        depth,
-        longest,
-        now,
-        samples,
+        count_left(cells, changes, topic.depth, longest, now, samples, &None),
     ) {
         Some(Limit::Samples)
     } else {

@@ -1,4 +1,4 @@
-use Rattle.std.proofs.Common.{◌≡◌, ℕ, ◌*◌, ◌^◌, ◌≤◌, Some, false, List, map, sym, ap, ◌∙◌, subst, arith}
+use Rattle.std.proofs.Common.{◌≡◌, ℕ, ◌*◌, ◌^◌, false, List, map, sym, ap, ◌∙◌, subst, arith}
 use Rattle.dur_view.specs.Identities.{Key}
 use Rattle.dur_view.specs.Past.{◌▹◌}
 use Rattle.dur_view.specs.Fates.{is_long}
@@ -10,10 +10,10 @@ use Rattle.dur_instances.specs.declared.registered.Registered.{Registered}
 use Rattle.dur_instances.specs.Trimmed.{Trimmed, begun, row_at}
 use Rattle.dur_instances.specs.Stands.{Stands}
 use Rattle.dur_instances.specs.Layout.{settled}
-use Rattle.dur_instances.specs.Due.{due_of, due_with}
+use Rattle.dur_instances.specs.declared.changes.Change.{Change}
+use Rattle.dur_instances.specs.Due.{due_of}
 use Rattle.dur_instances.specs.contracts.instances.Instances.{the_view}
 use Rattle.dur_instances.proofs.Applied.{After}
-use Rattle.dur_instances.proofs.BeforeDue.{after-ends}
 use Rattle.dur_instances.proofs.Settled.{Ends, settles, loses}
 use Rattle.dur_instances.proofs.instances.Instances.lost.Goals as goal
 
@@ -27,19 +27,10 @@ after c =
     subst (λ (l : List Cell). After c.self.inside.topic c.self.inside.cells.items l c.self.inside.registered.items c.leave_all.new.list.items c.self.inside.changes.items c.self.inside.changes.items e) (sym cells2-is)
     (settles c.self.inside.topic c.self.inside.cells.items c.self.inside.registered.items c.leave_all.new.list.items c.self.inside.changes.items c.self.invariant.0 e ends awake)
 
--- the cells after the registrations ended
-cells-are : (c : goal.After-self-1) → c.settle.new.cells.items ≡ map (settled c.leave_all.new.list.items c.args.moment) c.self.inside.cells.items
-cells-are c = c.settle.ensures.items ∙ ap (λ (l : List Registered). map (settled l c.args.moment) c.self.inside.cells.items) c.deref.ensures.value
-
 pub invariant_of-self : goal.invariant_of-self
 invariant_of-self c = (
   (after c).laid,
-  (let longest = c.self.inside.topic.delay * 2 ^ 32 in
-      let le = c.self.invariant.1 in
-      let by = after-ends longest c.args.moment c.self.inside.due c.leave_all.new.list.items c.self.inside.cells.items c.self.inside.changes.items le in
-      let at = subst (λ (l : List Cell). due_with longest (Some c.args.moment) c.self.inside.due ≤ due_of longest l c.self.inside.changes.items) (sym (cells-are c)) by in
-      let is = c.due_with-self-inside.ensures in
-      omega arith),
+  c.due_of-self-inside.ensures ∙ ap (λ (l : List Cell). due_of (c.self.inside.topic.delay * 2 ^ 32) l c.deref-3.result.now) c.deref-2.ensures.value ∙ ap (λ (l : List Change). due_of (c.self.inside.topic.delay * 2 ^ 32) c.settle.new.cells.items l) c.deref-3.ensures.value,
 )
 
 pub returns-clause-stands : goal.returns-clause-stands
@@ -51,5 +42,5 @@ returns-clause-stands c = λ p st.
     let now = c.sweep.ensures.last in
     let is : c.args.moment ≡ c.self.inside.last = omega arith in
     let step = same-step c.self.inside.last p old e (omega arith) mid in
-    let new = begun (the_view record { topic = c.self.inside.topic; last = c.self.inside.last; due = c.due_with-self-inside.result; cells = c.settle.new.cells; registered = c.leave_all.new.list; changes = c.self.inside.changes }) in
+    let new = begun (the_view record { topic = c.self.inside.topic; last = c.self.inside.last; due = c.due_of-self-inside.result; cells = c.settle.new.cells; registered = c.leave_all.new.list; changes = c.self.inside.changes }) in
     subst (λ (z : ℕ). SameFrom z (p ▹ e) new) is (same-trans c.args.moment (p ▹ e) (old ▹ e) new step (after c).same)

@@ -1,4 +1,4 @@
-use Rattle.std.proofs.Common.{◌≡◌, ℕ, ◌<◌, ◌*◌, ◌^◌, Some, List, [], map, rules, sym, ap, ◌∙◌, subst, arith}
+use Rattle.std.proofs.Common.{◌≡◌, ℕ, ◌<◌, ◌*◌, ◌^◌, Some, List, [], map, rules, sym, ap, ◌∙◌, subst}
 use Rattle.dur_qos.specs.declared.plan.Topic.{Topic}
 use Rattle.dur_view.specs.declared.data.Instance.{Instance}
 use Rattle.dur_view.specs.declared.data.Kept.{Kept}
@@ -9,7 +9,6 @@ use Rattle.dur_instances.specs.Layout.{rows_of, lates_of, IsLaid}
 use Rattle.dur_instances.specs.declared.cells.Cell.{Cell}
 use Rattle.dur_instances.specs.declared.changes.Change.{Change}
 use Rattle.dur_instances.specs.Due.{due_of}
-use Rattle.dur_instances.specs.Places.{kept_in}
 use Rattle.dur_instances.specs.FromView.{cell_of_line, lines_in, with_lines, changes_in}
 use Rattle.dur_instances.proofs.FromView.{laid-from, same-from}
 use Rattle.dur_instances.proofs.instances.Instances.of_view.Goals as goal
@@ -28,8 +27,8 @@ invariant_of-result c =
           (c.in_ok-cells.ensures ∙ ap (λ (l : List Instance). map cell_of_line (lines_in t l)) c.as_slice-lines.ensures)
           (c.in_ok-registered.ensures ∙ ap (λ (l : List Instance). with_lines (lines_in t l) []) c.as_slice-lines.ensures)
           (c.in_ok-changes.ensures ∙ ap (λ (l : List Instance). changes_in s.depth t l c.as_slice.result.now) c.as_slice-lines.ensures ∙ ap (λ (l : List Kept). changes_in s.depth t v.instances l) c.as_slice.ensures)),
-      (let is = c.due_of.ensures ∙ ap (λ (l : List Cell). due_of (s.delay * 2 ^ 32) l (kept_in c.places.result.now)) c.deref.ensures.value ∙ ap (λ (l : List Change). due_of (s.delay * 2 ^ 32) cells l) c.places.ensures
-          ∙ ap (λ (x : Topic). due_of (x.delay * 2 ^ 32) cells changes) (sym c.copy.ensures) in omega arith),
+      c.due_of.ensures ∙ ap (λ (l : List Cell). due_of (s.delay * 2 ^ 32) l c.deref-2.result.now) c.deref.ensures.value ∙ ap (λ (l : List Change). due_of (s.delay * 2 ^ 32) cells l) c.deref-2.ensures.value
+          ∙ ap (λ (x : Topic). due_of (x.delay * 2 ^ 32) cells changes) (sym c.copy.ensures),
     )
 
 pub returns-clause-stands : goal.returns-clause-stands

@@ -6,7 +6,6 @@ use Rattle.dur_instances.specs.Stands.{Stands}
 use Rattle.dur_instances.specs.declared.cells.Cell.{Cell}
 use Rattle.dur_instances.specs.declared.changes.Change.{Change}
 use Rattle.dur_instances.specs.Due.{due_of}
-use Rattle.dur_instances.specs.Places.{kept_in}
 use Rattle.dur_instances.specs.contracts.instances.Instances.{the_view}
 use Rattle.dur_instances.proofs.Swept.{swept}
 use Rattle.dur_instances.proofs.BeforeDue.{awake-before, trimmed-before}
@@ -38,7 +37,7 @@ returns-then-is_before-clause-awake c =
 pub invariant_of-self-2 : goal.invariant_of-self-2
 invariant_of-self-2 c = (
   (swept _ _ _ _ _ _ _ c.self.invariant.0 _ _ refl (c.of.ensures ∙ c.deref.ensures.value) c.sweep-2.ensures.items c.sweep.ensures.items).laid,
-  (let is = c.due_of-self-inside.ensures ∙ ap (λ (l : List Cell). due_of (c.self.inside.topic.delay * 2 ^ 32) l (kept_in c.places.result.now)) c.deref-2.ensures.value ∙ ap (λ (l : List Change). due_of (c.self.inside.topic.delay * 2 ^ 32) c.sweep-2.new.cells.items l) c.places.ensures in omega arith),
+  c.due_of-self-inside.ensures ∙ ap (λ (l : List Cell). due_of (c.self.inside.topic.delay * 2 ^ 32) l c.deref-3.result.now) c.deref-2.ensures.value ∙ ap (λ (l : List Change). due_of (c.self.inside.topic.delay * 2 ^ 32) c.sweep-2.new.cells.items l) c.deref-3.ensures.value,
 )
 
 pub returns-clause-stands : goal.returns-clause-stands
@@ -61,7 +60,8 @@ returns-clause-awake c =
 pub returns-clause-room : goal.returns-clause-room
 returns-clause-room c =
     let old = ap (λ (t : Trimmed). t.room) c.self.view_is in
-    let a = c.sweep.ensures.room in
+    let a = c.sweep.ensures.len in
+    let b = c.sweep.ensures.capacity in
     let d = c.sweep-2.ensures.len in
     let e = c.sweep-2.ensures.capacity in
     omega arith
