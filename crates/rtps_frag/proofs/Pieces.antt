@@ -1,8 +1,8 @@
 -- Fragments of one sample.
-use Rattle.std.proofs.Common.{◌≡◌, ℕ, zero, suc, ◌+◌, ◌-◌, ◌*◌, ◌<◌, ◌≤◌, Bool, true, false, List, [], ◌∷◌, length, take, drop, not, set, replicate, get_or, refl, sym, arith}
+use Rattle.std.proofs.Common.{◌≡◌, ℕ, zero, suc, ◌+◌, ◌-◌, ◌*◌, ◌/◌, ◌<◌, ◌≤◌, Bool, true, false, List, [], ◌∷◌, length, take, drop, not, set, replicate, get_or, refl, sym, arith}
 use Rattle.std.specs.Prelude.{◌==◌}
 use Rattle.std.specs.List.{list_all}
-use Rattle.std.proofs.Math.Nat.{mul-le-mul_right, add-mul}
+use Rattle.std.proofs.Math.Nat.{mul-le-mul_right, add-mul, div-le_self}
 use Rattle.std.proofs.lemmas.List.{length-drop, length-replicate}
 use Rattle.std.proofs.lemmas.Bool.{ne_eqb, false≢true}
 use Rattle.rtps_frag.specs.Samples.{Opened, IsOpened, missing_in, with_one, with_some}
@@ -17,6 +17,10 @@ missing_less (true ∷ later) zero d short not_yet = absurd (false≢true not_ye
 missing_less (false ∷ later) zero d short not_yet = refl
 missing_less (true ∷ later) (suc k) d short not_yet = missing_less later k d (omega (arith, short)) not_yet
 missing_less (false ∷ later) (suc k) d short not_yet = let more = missing_less later k d (omega (arith, short)) not_yet in omega (arith, more)
+
+-- a sample of 65,344 octets at most has no more fragments than that
+pub few : (size width : ℕ) → 0 < size → size ≤ 65344 → (size - 1) / width + 1 ≤ 65344
+few size width some short = let less : (size - 1) / width ≤ size - 1 = div-le_self (size - 1) width in omega (arith, less, some, short)
 
 -- a sample is opened
 pub opened_so : (size n : ℕ) (came : List Bool) (octets : List ℕ) → came ≡ replicate n false → octets ≡ replicate size 0 → IsOpened size n came octets

@@ -1,4 +1,5 @@
 pub mod Bodies
+pub mod Marks
 pub mod Samples
 pub mod Joining
 pub mod Asking

@@ -5,6 +5,7 @@ ghost use Rattle.rtps_message.specs.Written.{message};
 ghost use Rattle.rtps_submsg.specs.declared.sub.Sub.TheVariants.{InfoDst};
 ghost use Rattle.rtps_frag.specs.Asking.{first_from, word_where, words_where, is_asked, asked, words_text, nack_sub, nack_message};
 
+use crate::arrived::Arrived;
 use crate::sample::write_at;
 use arrayvec::ArrayVec;
 use dur_base::{Bits, EntityId, Guid, Number, Prefix, octets_of_sequence, u16_octets, u32_octets};
@@ -27,32 +28,30 @@ pub struct FragAsk {
 }
 
 /// The place of the first fragment that did not come.
-fn first_missing(came: &[bool]) -> Option<usize>
+fn first_missing(came: &Arrived) -> Option<usize>
     ensures value { result ≡ first_from 0 came.now }
     ensures within { IfSome result (λ i. i < length came.now) }
 {
-    let mut rest = came;
     let mut k = 0;
-    while let [has_come, later @ ..] = rest {
-        if !*has_come {
+    while k < came.len() {
+        if !came.is_set(k) {
             return Some(k);
         }
-        rest = later;
         k += 1;
     }
     None
 }
 
 /// Whether the fragment at that place is asked for.
-fn is_asked(came: &[bool], last: u32, k: usize) -> bool
+fn is_asked(came: &Arrived, last: u32, k: usize) -> bool
     ensures { result ≡ is_asked came.now last k }
 {
-    k < last as usize && k < came.len() && !came[k]
+    k < last as usize && k < came.len() && !came.is_set(k)
 }
 
 /// The word whose first bit is for that place.
 #[tactic(auto, using(crate::proofs::Words::digits_fit))]
-fn word(came: &[bool], last: u32, k: usize) -> u32
+fn word(came: &Arrived, last: u32, k: usize) -> u32
     requires { k < 2 ^ 33 }
     ensures { result ≡ word_where (is_asked came.now last) k }
 {
@@ -66,7 +65,7 @@ fn word(came: &[bool], last: u32, k: usize) -> u32
 }
 
 /// The words whose first bit is for that place.
-fn words(came: &[bool], last: u32, k: usize) -> [u32; 8]
+fn words(came: &Arrived, last: u32, k: usize) -> [u32; 8]
     requires { k < 2 ^ 32 }
     ensures { result ≡ words_where (is_asked came.now last) k }
 {
@@ -85,7 +84,7 @@ fn words(came: &[bool], last: u32, k: usize) -> [u32; 8]
 /// The fragments that did not come, from the least one to the lesser of `last` and that one + 255, where
 /// there is one.
 #[tactic(auto, unfolding(crate::specs::Asking::asked))]
-pub fn asked(writer: Guid, number: Number, came: &[bool], last: u32) -> Option<FragAsk>
+pub fn asked(writer: Guid, number: Number, came: &Arrived, last: u32) -> Option<FragAsk>
     ensures { result ≡ asked writer number came.now last }
 {
     match first_missing(came) {

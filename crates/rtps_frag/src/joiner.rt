@@ -257,6 +257,7 @@ impl Joiner {
         sub: &FragSub<'_>,
     ) -> Result<(), OutOfMemory>
         requires fits { Fits (brings sub.now) }
+        requires small { sub.now.head.size ≤ 65344 }
         requires room { length self.old < 64 }
         ensures { OnOk result (self.new ≡ self.old ++ with_fragments time (brings sub.now) (opening writer (brings sub.now)) ∷ []) }
     {

@@ -2,6 +2,7 @@
 //! asked for.
 #![tactic(auto)]
 
+mod arrived;
 mod asks;
 mod body;
 mod hearing;

@@ -1,11 +1,12 @@
 //! One open sample: which of its fragments came, and their octets.
 
-ghost use Rattle.std.specs.Prelude.{◌≡◌, ◌+◌, ◌-◌, ◌*◌, ◌^◌, ◌<◌, ◌≤◌, ◌&&◌, ◌==◌, [], true, false, not, take, drop, slice_set, length, get_or, replicate, Some, None, OnOk, OnErr, IfOk};
+ghost use Rattle.std.specs.Prelude.{◌≡◌, ◌+◌, ◌-◌, ◌*◌, ◌^◌, ◌<◌, ◌≤◌, ◌&&◌, ◌==◌, [], true, not, take, drop, slice_set, length, get_or, replicate, Some, None, OnOk, OnErr, IfOk};
 ghost use Rattle.std.specs.Str.{bytes_eq};
 ghost use Rattle.rtps_frag.specs.Bodies.{brings, Fits};
 ghost use Rattle.rtps_frag.specs.Samples.{Opened, opening, is_sample, is_alike, with_one, with_some, with_list, with_fragments, is_whole, form_of, joined, fragments_in, missing_in};
 ghost use lib.Seq.{paste};
 
+use crate::arrived::Arrived;
 use crate::body::FragSub;
 use bytes::Bytes;
 use dur_base::{
@@ -27,7 +28,7 @@ pub struct Slot {
     inline: Inline,
     time: Option<Ticks>,
     /// Whether each fragment came.
-    came: Vec<bool>,
+    came: Arrived,
     /// How many did not.
     missing: usize,
     /// The octets of those that came, each at its place; zeros elsewhere.
@@ -40,19 +41,9 @@ impl Model for Slot {
 
     ghost Value = { Opened };
 
-    ghost view = { λ s. record { writer = s.writer; number = s.number; reader = s.reader; size = s.size; width = s.width; is_key = s.is_key; inline = s.inline; time = s.time; came = s.came.items; octets = s.octets.items } };
+    ghost view = { λ s. record { writer = s.writer; number = s.number; reader = s.reader; size = s.size; width = s.width; is_key = s.is_key; inline = s.inline; time = s.time; came = s.came; octets = s.octets.items } };
 
-    ghost invariant = { λ s. IsOpened s.size s.missing s.came.items s.octets.items };
-}
-
-/// As many marks as there are fragments, of which none came.
-fn fill_marks(came: &mut Vec<bool>, count: usize) -> Result<(), OutOfMemory>
-    requires { came.old.items ≡ [] }
-    ensures ok { OnOk result (came.new.items ≡ replicate count false) }
-    ensures err { OnErr result (came.new.items ≡ []) }
-{
-    came.resize(count, false)?;
-    Ok(())
+    ghost invariant = { λ s. IsOpened s.size s.missing s.came s.octets.items };
 }
 
 /// As many zeros.
@@ -66,12 +57,12 @@ fn fill_octets(octets: &mut Vec<u8>, size: usize) -> Result<(), OutOfMemory>
 }
 
 /// Whether the fragment at that place did not come.
-fn is_missing(came: &[bool], k: usize) -> bool
+fn is_missing(came: &Arrived, k: usize) -> bool
     ensures value { result ≡ not (get_or came.now k true) }
     ensures within { result ≡ true → k < length came.now }
     ensures counted { result ≡ true → missing_in (slice_set came.now k true) + 1 ≡ missing_in came.now }
 {
-    k < came.len() && !came[k]
+    k < came.len() && !came.is_set(k)
 }
 
 /// Writes octets at a place.
@@ -108,7 +99,7 @@ impl Slot {
             is_key: false,
             inline: Inline::nothing(),
             time: None,
-            came: Vec::with_capacity(alloc, LONGEST_PAYLOAD)?,
+            came: Arrived::new(alloc)?,
             missing: 0,
             octets: Vec::with_capacity(alloc, LONGEST_PAYLOAD)?,
         })
@@ -132,17 +123,16 @@ impl Slot {
     /// Opens a sample here, of which nothing came.
     #[tactic(auto, using(crate::proofs::Pieces::missing_none), unfolding(crate::specs::Samples::opening))]
     pub fn open(&mut self, writer: Guid, sub: &FragSub<'_>) -> Result<(), OutOfMemory>
-        requires { Fits (brings sub.now) }
+        requires fits { Fits (brings sub.now) }
+        requires small { sub.now.head.size ≤ 65344 }
         ensures { OnOk result (self.new ≡ opening writer (brings sub.now)) }
     {
-        self.came.clear();
         self.octets.clear();
-        self.missing = 0;
         self.size = 0;
         let size = sub.head.size as usize;
         let width = usize::from(sub.head.width);
         let count = (size - 1) / width + 1;
-        fill_marks(&mut self.came, count)?;
+        self.came.clear(count);
         self.missing = count;
         fill_octets(&mut self.octets, size)?;
         self.writer = writer;
@@ -164,10 +154,10 @@ impl Slot {
         ensures size { self.new.size ≡ self.old.size }
         ensures width { self.new.width ≡ self.old.width }
     {
-        if !is_missing(self.came.as_slice(), k) {
+        if !is_missing(&self.came, k) {
             return;
         }
-        self.came[k] = true;
+        self.came.set(k);
         self.missing -= 1;
         write_at(self.octets.as_mut_slice(), k * self.width, text);
     }
@@ -195,7 +185,7 @@ impl Slot {
     fn put_list(&mut self, time: Option<Ticks>, sub: &FragSub<'_>)
         ensures { self.new ≡ with_list time (brings sub.now) self.old }
     {
-        if sub.head.first == 1 && !self.came.is_empty() && !self.came[0] {
+        if sub.head.first == 1 && is_missing(&self.came, 0) {
             self.inline = sub.inline;
             self.time = time;
         }
@@ -272,9 +262,9 @@ impl Slot {
     }
 
     /// Whether each of its fragments came.
-    pub fn came(&self) -> &[bool]
+    pub fn came(&self) -> &Arrived
         ensures { result.now ≡ self.now.came }
     {
-        self.came.as_slice()
+        &self.came
     }
 }
