@@ -1,4 +1,5 @@
 pub mod Marks
+pub mod Good
 pub mod Pieces
 pub mod Words
 pub mod Places

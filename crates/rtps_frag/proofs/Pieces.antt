@@ -5,6 +5,9 @@ use Rattle.std.specs.List.{list_all}
 use Rattle.std.proofs.Math.Nat.{mul-le-mul_right, add-mul, div-le_self}
 use Rattle.std.proofs.lemmas.List.{length-drop, length-replicate}
 use Rattle.std.proofs.lemmas.Bool.{ne_eqb, false≢true}
+use Rattle.rtps_params.specs.declared.inline.Inline.{Inline}
+use Rattle.rtps_params.specs.Meaning.{inline_of}
+use Rattle.rtps_frag.proofs.Good.{nothing_inside}
 use Rattle.rtps_frag.specs.Samples.{Opened, IsOpened, missing_in, with_one, with_some}
 
 pub missing_none : (n : ℕ) → missing_in (replicate n false) ≡ n
@@ -23,8 +26,8 @@ pub few : (size width : ℕ) → 0 < size → size ≤ 65344 → (size - 1) / wi
 few size width some short = let less : (size - 1) / width ≤ size - 1 = div-le_self (size - 1) width in omega (arith, less, some, short)
 
 -- a sample is opened
-pub opened_so : (size n : ℕ) (came : List Bool) (octets : List ℕ) → came ≡ replicate n false → octets ≡ replicate size 0 → IsOpened size n came octets
-opened_so size n came octets came_is octets_are = rw (came_is, octets_are) (record { octets_are = length-replicate size 0; counted = sym (missing_none n) })
+pub opened_so : (size n : ℕ) (inline : Inline) (came : List Bool) (octets : List ℕ) → size ≤ 65344 → inline ≡ inline_of [] → came ≡ replicate n false → octets ≡ replicate size 0 → IsOpened size n inline came octets
+opened_so size n inline came octets short inline_is came_is octets_are = rw (came_is, octets_are) (record { octets_are = length-replicate size 0; short = short; counted = sym (missing_none n); inside = nothing_inside inline inline_is })
 
 pub whole_none : (came : List Bool) → (missing_in came == 0) ≡ list_all (λ b. b) came
 whole_none [] = refl

@@ -10,6 +10,7 @@ use Rattle.rtps_submsg.specs.declared.sub.SubKind.{SubKind}
 use Rattle.rtps_submsg.specs.declared.sub.SubKind.TheVariants.{Cut, BadNumber, BadRange, BadOffset, List as InList}
 use Rattle.rtps_submsg.specs.Rows.{has}
 use Rattle.rtps_submsg.specs.Data.{InlineSpells}
+use Rattle.rtps_message.proofs.Good.{IsInside}
 use Rattle.rtps_frag.specs.declared.body.Head.{Head}
 use Rattle.rtps_frag.specs.declared.body.FragBeat.{FragBeat}
 use Rattle.rtps_frag.specs.declared.body.FragSub.{FragSub}
@@ -102,9 +103,10 @@ pub record Fragments : Type 0 where
 abbrev pub brings : FragSub → Fragments
 brings f = record { head = f.head; is_key = f.is_key; inline = f.inline; octets = f.octets.now }
 
--- its fragments lie within the sample
+-- its fragments lie within the sample, and its inline QoS in the ranges of one
 pub record Fits (f : Fragments) : Type 0 where
   pub head : IsGoodHead f.head
+  pub inside : IsInside f.inline
   pub octets : length f.octets ≤ f.head.size - (f.head.first - 1) * f.head.width
 
 -- the octets from the place on that octetsToInlineQos names

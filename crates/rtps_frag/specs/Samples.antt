@@ -1,5 +1,5 @@
 -- One open sample: what came of it since it was opened.
-use Rattle.std.specs.Prelude.{◌≡◌, ℕ, zero, suc, ◌+◌, ◌-◌, ◌*◌, ◌/◌, Bool, true, false, List, [], ◌∷◌, length, take, drop, get_or, set, replicate, Option, None, is_none, ◌==◌, ◌&&◌, not, if◌then◌else◌}
+use Rattle.std.specs.Prelude.{◌≡◌, ℕ, zero, suc, ◌+◌, ◌-◌, ◌*◌, ◌/◌, ◌≤◌, Bool, true, false, List, [], ◌∷◌, length, take, drop, get_or, set, replicate, Option, None, is_none, ◌==◌, ◌&&◌, not, if◌then◌else◌}
 use Rattle.std.specs.List.{list_all}
 use Rattle.std.specs.Str.{bytes_eq}
 use Rattle.dur_base.specs.declared.fact.Fact.{Fact}
@@ -8,6 +8,7 @@ use Rattle.dur_base.specs.declared.sample.Form.{Form}
 use Rattle.dur_base.specs.declared.sample.Form.TheVariants.{Data, KeyOnly}
 use Rattle.rtps_params.specs.declared.inline.Inline.{Inline}
 use Rattle.rtps_params.specs.Meaning.{inline_of}
+use Rattle.rtps_message.proofs.Good.{IsInside}
 use Rattle.rtps_frag.specs.Bodies.{Fragments}
 use lib.Seq.{paste}
 
@@ -31,10 +32,13 @@ missing_in [] = 0
 missing_in (true ∷ later) = missing_in later
 missing_in (false ∷ later) = missing_in later + 1
 
--- what a place of an open sample knows: it has sampleSize octets, and counts the fragments that did not come
-pub record IsOpened (size missing : ℕ) (came : List Bool) (octets : List ℕ) : Type 0 where
+-- What a place of an open sample knows: it has sampleSize octets, at most 65,344; it counts the fragments that did
+-- not come; and its inline QoS lies in the ranges of a sample.
+pub record IsOpened (size missing : ℕ) (inline : Inline) (came : List Bool) (octets : List ℕ) : Type 0 where
   pub octets_are : length octets ≡ size
+  pub short : size ≤ 65344
   pub counted : missing ≡ missing_in came
+  pub inside : IsInside inline
 
 -- that sample
 abbrev pub is_sample : List ℕ → ℕ → Opened → Bool

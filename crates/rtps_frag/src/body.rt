@@ -2,6 +2,7 @@
 
 ghost use Rattle.std.specs.Prelude.{◌≡◌, ◌≤◌, ◌+◌, ◌-◌, ◌*◌, ◌<◌, ◌^◌, [], true, length, take, drop, min, IfOk, IfErr};
 ghost use Rattle.rtps_frag.specs.Bodies.{Fragments, part, head_at, beat_at, octets_of, FragmentsSpell, FragmentsBreak, brings, Fits, IsGoodHead};
+ghost use Rattle.rtps_message.proofs.Good.{IsInside};
 ghost use Rattle.rtps_submsg.specs.Data.{InlineSpells};
 ghost use Rattle.rtps_params.specs.Lists.{ListBreaks};
 ghost use Rattle.rtps_params.specs.Meaning.{inline_of};
@@ -197,6 +198,7 @@ fn octets_of(head: &Head) -> usize
 /// The inline QoS, where there is one, and how many octets it takes.
 fn list_at(behind: &[u8], is_there: bool, little: bool) -> Result<(Inline, usize), ListFault>
     ensures ok { IfOk result (λ r. InlineSpells is_there little behind.now r.0 (drop r.1 behind.now)) }
+    ensures inside { IfOk result (λ r. IsInside r.0) }
     ensures within { IfOk result (λ r. r.1 ≤ length behind.now) }
     ensures there { IfErr result (λ f. is_there ≡ true) }
     ensures err { IfErr result (λ f. ListBreaks behind.now little f.at f.kind) }

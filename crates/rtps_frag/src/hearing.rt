@@ -1,7 +1,9 @@
 //! What is heard in a datagram.
 
-ghost use Rattle.std.specs.Prelude.{◌≡◌, ◌≤◌, ◌<◌, ◌++◌, ◌-◌, ◌+◌, ◌^◌, true, [], length, drop, IfOk, IfErr, OnOk, OnErr};
+ghost use Rattle.std.specs.Prelude.{◌≡◌, ◌≤◌, ◌<◌, ◌++◌, ◌-◌, ◌+◌, ◌^◌, true, [], length, drop, IfOk, IfErr, IfSome, OnOk, OnErr};
 ghost use Rattle.std.specs.Option.{option_to_list};
+ghost use Rattle.dur_base.proofs.OctetLists.{IsBytes};
+ghost use Rattle.rtps_message.specs.Facts.{IsGoodFact, AreGood};
 ghost use Rattle.rtps_submsg.specs.Subs.{SubSpells};
 ghost use Rattle.rtps_submsg.specs.declared.sub.Sub.TheVariants.{Other};
 ghost use Rattle.rtps_frag.specs.Bodies.{brings, Fits, FragmentsSpell, FragmentsBreak};
@@ -22,6 +24,13 @@ struct Told {
     len: usize,
     fact: Option<Fact>,
     ask: Option<FragAsk>,
+}
+
+/// Octets are below 256.
+fn octets_below(bytes: &[u8])
+    ensures { IsBytes bytes.now }
+{
+    let _ = bytes;
 }
 
 /// The flags and the body of a submessage with that many octets.
@@ -80,6 +89,7 @@ impl Joiner {
         requires within { len ≤ length bytes.now }
         ensures ok { IfOk result (λ r. IfOk r (λ t. Goes own bytes.now (record { context = context.now; samples = self.old }) (record { context = context.now; samples = self.new }) t.len t.fact t.ask)) }
         ensures err { IfOk result (λ r. IfErr r (λ f. ItemBreaks bytes.now f.at f.kind × (self.new ≡ self.old))) }
+        ensures good { IfOk result (λ r. IfOk r (λ t. IfSome t.fact IsGoodFact)) }
         ensures place { IfOk result (λ r. IfErr r (λ f. f.at ≤ 32 + length bytes.now)) }
     {
         let (flags, body) = parts(bytes, len);
@@ -117,6 +127,7 @@ impl Joiner {
         requires within { len ≤ length bytes.now }
         ensures ok { IfOk result (λ t. Goes own bytes.now (record { context = context.now; samples = self.now }) (record { context = context.now; samples = self.now }) t.len t.fact t.ask) }
         ensures err { IfErr result (λ f. ItemBreaks bytes.now f.at f.kind) }
+        ensures good { IfOk result (λ t. IfSome t.fact IsGoodFact) }
         ensures place { IfErr result (λ f. f.at ≤ 32 + length bytes.now) }
     {
         let (flags, body) = parts(bytes, len);
@@ -152,6 +163,7 @@ impl Joiner {
         requires { at ≤ length datagram.now }
         ensures ok { IfOk result (λ r. IfOk r (λ t. Goes own (drop at datagram.now) (record { context = context.old; samples = self.old }) (record { context = context.new; samples = self.new }) t.len t.fact t.ask)) }
         ensures err { IfOk result (λ r. IfErr r (λ f. ItemBreaks (drop at datagram.now) f.at f.kind × (self.new ≡ self.old))) }
+        ensures good { IfOk result (λ r. IfOk r (λ t. IfSome t.fact IsGoodFact)) }
         ensures place { IfOk result (λ r. IfErr r (λ f. f.at ≤ 32 + (length datagram.now - at))) }
         ensures small { length datagram.now < 2 ^ 63 }
     {
@@ -165,6 +177,7 @@ impl Joiner {
                 if is_other(sub, 0x13) {
                     return Ok(self.hear_beat(own, context, bytes, *len));
                 }
+                octets_below(bytes);
                 let fact = context.hear(own, sub, datagram, at + *len)?;
                 Ok(Ok(Told {
                     len: *len,
@@ -184,7 +197,8 @@ impl Joiner {
         start: Context,
     ) -> Result<Joined, OutOfMemory>
         requires { 20 ≤ length datagram.now }
-        ensures { IfOk result (λ h. Says own datagram.now (record { context = start; samples = self.old }) h self.new) }
+        ensures says { IfOk result (λ h. Says own datagram.now (record { context = start; samples = self.old }) h self.new) }
+        ensures good { IfOk result (λ h. AreGood h.facts) }
     {
         let mut context = start;
         let mut facts = List::new(alloc);
@@ -220,7 +234,8 @@ impl Joiner {
         own: Prefix,
         datagram: &Payload,
     ) -> Result<Joined, OutOfMemory>
-        ensures { IfOk result (λ h. Joins own datagram.now self.old h self.new) }
+        ensures joins { IfOk result (λ h. Joins own datagram.now self.old h self.new) }
+        ensures good { IfOk result (λ h. AreGood h.facts) }
     {
         match begin(datagram.as_slice()) {
             Some(start) => self.hear_from(alloc, own, datagram, start),
@@ -243,6 +258,8 @@ impl Joiner {
         ensures joins { IfOk result (λ h. Joins own datagram.now self.old h self.new) }
         ensures only { IfOk result (λ h. IsAll own datagram.now self.old h self.new) }
         ensures plain { IfOk result (λ h. IsAsEver own datagram.now self.old h self.new) }
+        // What is told may be handed on as what `rtps_message::facts` tells.
+        ensures good { IfOk result (λ h. AreGood h.facts) }
         ensures given_up { OnErr result (self.new ≡ []) }
     {
         match self.hear_all(alloc, own, datagram) {
@@ -261,6 +278,8 @@ impl Joiner {
         ensures joins { IfOk result (λ h. Joins own bytes.now self.old h self.new) }
         ensures only { IfOk result (λ h. IsAll own bytes.now self.old h self.new) }
         ensures plain { IfOk result (λ h. IsAsEver own bytes.now self.old h self.new) }
+        // What is told may be handed on as what `rtps_message::facts` tells.
+        ensures good { IfOk result (λ h. AreGood h.facts) }
         ensures given_up { OnErr result (self.new ≡ []) }
     {
         match Bytes::copy_from_slice(alloc, bytes) {

@@ -2,6 +2,7 @@
 
 ghost use Rattle.std.specs.Prelude.{◌≡◌, ◌+◌, ◌<◌, ◌≤◌, [], ◌∷◌, set, ◌++◌, Some, None, OnOk, if◌then◌else◌, take, drop, length, get_or, IfOk, IfSome};
 ghost use Rattle.std.specs.List.{remove};
+ghost use Rattle.rtps_message.specs.Facts.{IsGoodFact};
 ghost use Rattle.rtps_frag.specs.Bodies.{brings, Fits};
 ghost use Rattle.rtps_frag.specs.Samples.{Opened, opening, is_alike, is_whole, joined, with_fragments};
 ghost use Rattle.rtps_frag.specs.Joining.{After, place_from, settled, again, anew, with_room, with_pieces, asked_in};
@@ -122,7 +123,8 @@ fn put_among(slots: &mut Vec<Slot>, i: usize, time: Option<Ticks>, sub: &FragSub
 
 /// What a sample tells where it is whole.
 fn told(slot: &Slot, alloc: Global) -> Result<Option<Fact>, OutOfMemory>
-    ensures { IfOk result (λ f. f ≡ (if is_whole slot.now then Some (joined slot.now) else None)) }
+    ensures value { IfOk result (λ f. f ≡ (if is_whole slot.now then Some (joined slot.now) else None)) }
+    ensures good { IfOk result (λ f. IfSome f IsGoodFact) }
 {
     if !slot.is_whole() {
         return Ok(None);
@@ -174,7 +176,8 @@ impl Joiner {
     /// Closes the sample at a place and tells it, where it is whole.
     fn settle(&mut self, alloc: Global, i: usize) -> Result<Option<Fact>, OutOfMemory>
         requires { i < length self.old }
-        ensures { IfOk result (λ f. (d : Opened) → record { samples = self.new; fact = f } ≡ settled (get_or self.old i d) (remove self.old i) self.old) }
+        ensures does { IfOk result (λ f. (d : Opened) → record { samples = self.new; fact = f } ≡ settled (get_or self.old i d) (remove self.old i) self.old) }
+        ensures good { IfOk result (λ f. IfSome f IsGoodFact) }
     {
         match told(&self.slots[i], alloc)? {
             Some(fact) => {
@@ -206,7 +209,8 @@ impl Joiner {
     ) -> Result<Option<Fact>, OutOfMemory>
         requires within { i < length self.old }
         requires fits { Fits (brings sub.now) }
-        ensures { IfOk result (λ f. (d : Opened) → record { samples = self.new; fact = f } ≡ again time (brings sub.now) (get_or self.old i d) i self.old) }
+        ensures does { IfOk result (λ f. (d : Opened) → record { samples = self.new; fact = f } ≡ again time (brings sub.now) (get_or self.old i d) i self.old) }
+        ensures good { IfOk result (λ f. IfSome f IsGoodFact) }
     {
         if !self.put_at(i, time, sub) {
             return Ok(None);
@@ -223,7 +227,8 @@ impl Joiner {
         sub: &FragSub<'_>,
     ) -> Result<Option<Fact>, OutOfMemory>
         requires { Fits (brings sub.now) }
-        ensures { IfOk result (λ f. record { samples = self.new; fact = f } ≡ anew writer time (brings sub.now) self.old) }
+        ensures does { IfOk result (λ f. record { samples = self.new; fact = f } ≡ anew writer time (brings sub.now) self.old) }
+        ensures good { IfOk result (λ f. IfSome f IsGoodFact) }
     {
         if sub.head.size as usize > LONGEST_PAYLOAD {
             return Ok(Some(Fact::Unreadable {
@@ -278,7 +283,8 @@ impl Joiner {
         sub: &FragSub<'_>,
     ) -> Result<Option<Fact>, OutOfMemory>
         requires { Fits (brings sub.now) }
-        ensures { IfOk result (λ f. record { samples = self.new; fact = f } ≡ with_pieces writer time (brings sub.now) self.old) }
+        ensures does { IfOk result (λ f. record { samples = self.new; fact = f } ≡ with_pieces writer time (brings sub.now) self.old) }
+        ensures good { IfOk result (λ f. IfSome f IsGoodFact) }
     {
         match place_of(self.samples(), writer, sub.head.number) {
             Some(i) => self.again(alloc, i, time, sub),

@@ -2,6 +2,7 @@
 
 ghost use Rattle.std.specs.Prelude.{◌≡◌, ◌+◌, ◌-◌, ◌*◌, ◌^◌, ◌<◌, ◌≤◌, ◌&&◌, ◌==◌, [], true, not, take, drop, slice_set, length, get_or, replicate, Some, None, OnOk, OnErr, IfOk};
 ghost use Rattle.std.specs.Str.{bytes_eq};
+ghost use Rattle.rtps_message.specs.Facts.{IsGoodFact};
 ghost use Rattle.rtps_frag.specs.Bodies.{brings, Fits};
 ghost use Rattle.rtps_frag.specs.Samples.{Opened, opening, is_sample, is_alike, with_one, with_some, with_list, with_fragments, is_whole, form_of, joined, fragments_in, missing_in};
 ghost use lib.Seq.{paste};
@@ -43,7 +44,7 @@ impl Model for Slot {
 
     ghost view = { λ s. record { writer = s.writer; number = s.number; reader = s.reader; size = s.size; width = s.width; is_key = s.is_key; inline = s.inline; time = s.time; came = s.came; octets = s.octets.items } };
 
-    ghost invariant = { λ s. IsOpened s.size s.missing s.came s.octets.items };
+    ghost invariant = { λ s. IsOpened s.size s.missing s.inline s.came s.octets.items };
 }
 
 /// As many zeros.
@@ -183,6 +184,7 @@ impl Slot {
 
     /// Takes the inline QoS and the time of a DATA_FRAG that brings fragment 1, unless it came.
     fn put_list(&mut self, time: Option<Ticks>, sub: &FragSub<'_>)
+        requires { Fits (brings sub.now) }
         ensures { self.new ≡ with_list time (brings sub.now) self.old }
     {
         if sub.head.first == 1 && is_missing(&self.came, 0) {
@@ -207,7 +209,9 @@ impl Slot {
     /// Whether all its fragments came.
     #[tactic(auto, using(crate::proofs::Pieces::whole_none))]
     pub fn is_whole(&self) -> bool
-        ensures { result ≡ is_whole self.now }
+        ensures value { result ≡ is_whole self.now }
+        // What it would tell is good.
+        ensures good { IsGoodFact (joined self.now) }
     {
         self.missing == 0
     }
