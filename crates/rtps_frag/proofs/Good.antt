@@ -1,16 +1,15 @@
 -- What is told is good: the values of an inline QoS lie in the ranges of a sample.
-use Rattle.std.proofs.Common.{◌≡◌, ℕ, ◌+◌, ◌-◌, ◌/◌, ◌<◌, ◌≤◌, Bool, true, false, List, [], ◌∷◌, ◌++◌, length, drop, Option, Some, None, Result, Ok, Err, refl, sym, subst, arith}
+use Rattle.std.proofs.Common.{◌≡◌, ℕ, ◌≤◌, Bool, true, false, List, [], ◌∷◌, ◌++◌, length, drop, Option, Some, None, Result, Ok, Err, refl, sym, subst, arith}
 use Rattle.std.specs.Prelude.{IfSome, IfOk, is_none, if◌then◌else◌}
 use Rattle.std.specs.Option.{option_to_list}
 use Rattle.std.proofs.lemmas.Bool.{cond_both}
 use Rattle.dur_base.specs.Goodness.{IsPayload, IsGoodRaw}
 use Rattle.dur_base.specs.declared.fact.Fact.{Fact}
-use Rattle.dur_base.proofs.OctetLists.{IsBytes, IsBytes-drop}
+use Rattle.dur_base.proofs.OctetLists.{IsBytes}
 use Rattle.rtps_params.specs.declared.inline.Inline.{Inline}
 use Rattle.rtps_params.specs.Lists.{ListSpells}
 use Rattle.rtps_params.specs.Meaning.{inline_of}
 use Rattle.rtps_submsg.specs.declared.sub.Sub.{Sub}
-use Rattle.rtps_submsg.specs.Data.{InlineSpells}
 use Rattle.rtps_submsg.specs.Subs.{SubSpells}
 use Rattle.rtps_message.specs.declared.context.Context.{Context}
 use Rattle.rtps_message.specs.Facts.{told, IsGoodFact, AreGood}

@@ -1,4 +1,4 @@
-use Rattle.std.proofs.Common.{◌<◌, arith}
+use Rattle.std.proofs.Common.{arith}
 use Rattle.rtps_frag.proofs.Good.{nothing_inside, listed_inside}
 use Rattle.rtps_frag.proofs.body.list_at.Goals as goal
 

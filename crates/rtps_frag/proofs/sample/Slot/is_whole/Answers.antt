@@ -1,4 +1,4 @@
-use Rattle.std.proofs.Common.{◌≡◌, ◌≤◌, ap, refl, ◌∙◌, ℕ, subst, length, arith}
+use Rattle.std.proofs.Common.{ap, refl, ◌∙◌, ℕ, subst, arith}
 use Rattle.std.specs.Prelude.{◌==◌}
 use Rattle.rtps_message.specs.Facts.{IsGoodFact}
 use Rattle.rtps_frag.specs.Samples.{Opened, joined}
