@@ -1,6 +1,8 @@
 //! Which fragments of an open sample came, a bit each.
 
-ghost use Rattle.std.specs.Prelude.{◌≡◌, ◌<◌, ◌≤◌, ◌++◌, Bool, [], false, true, drop, get_or, length, replicate, set, IfOk};
+ghost use Rattle.std.specs.Prelude.{◌≡◌, ℕ, ◌*◌, ◌<◌, ◌≤◌, ◌++◌, Bool, [], false, true, drop, get_or, length, replicate, set, IfOk, IfSome, IfNone};
+ghost use Rattle.rtps_frag.specs.Asking.{first_from};
+ghost use Rattle.rtps_frag.specs.Marks.{mark_at, IsFirstUnset};
 
 use dur_base::{LONGEST_PAYLOAD, OutOfMemory};
 use std::alloc::Global;
@@ -57,6 +59,23 @@ fn clear_words(words: &mut Vec<u64>, n: usize)
     clear_first(words.as_mut_slice(), n);
 }
 
+/// The place of the first bit that is not set.
+fn first_unset(words: &[u64]) -> Option<usize>
+    requires { length words.now ≤ 1021 }
+    ensures some { IfSome result (λ at. IsFirstUnset words.now at) }
+    ensures none { IfNone result ((k : ℕ) → k < 64 * length words.now → mark_at words.now k ≡ true) }
+{
+    let mut q = 0;
+    while q < words.len() {
+        let word = words[q];
+        if word != u64::MAX {
+            return Some(64 * q + word.trailing_ones() as usize);
+        }
+        q += 1;
+    }
+    None
+}
+
 impl Arrived {
     /// Room for each fragment of the longest sample. The sample has none yet.
     pub fn new(alloc: Global) -> Result<Arrived, OutOfMemory>
@@ -88,6 +107,17 @@ impl Arrived {
         ensures { (d : Bool) → result ≡ get_or self.now at d }
     {
         (self.words[at / 64] >> (at % 64)) & 1 == 1
+    }
+
+    /// The place of the first fragment that did not come. It looks at 64 of those that came at once.
+    pub fn first_missing(&self) -> Option<usize>
+        ensures value { result ≡ first_from 0 self.now }
+        ensures within { IfSome result (λ at. at < length self.now) }
+    {
+        match first_unset(self.words.as_slice()) {
+            Some(at) if at < self.count => Some(at),
+            _ => None,
+        }
     }
 
     /// Notes that the fragment at that place came. It takes no memory.

@@ -27,21 +27,6 @@ pub struct FragAsk {
     pub words: [u32; 8],
 }
 
-/// The place of the first fragment that did not come.
-fn first_missing(came: &Arrived) -> Option<usize>
-    ensures value { result ≡ first_from 0 came.now }
-    ensures within { IfSome result (λ i. i < length came.now) }
-{
-    let mut k = 0;
-    while k < came.len() {
-        if !came.is_set(k) {
-            return Some(k);
-        }
-        k += 1;
-    }
-    None
-}
-
 /// Whether the fragment at that place is asked for.
 fn is_asked(came: &Arrived, last: u32, k: usize) -> bool
     ensures { result ≡ is_asked came.now last k }
@@ -87,7 +72,7 @@ fn words(came: &Arrived, last: u32, k: usize) -> [u32; 8]
 pub fn asked(writer: Guid, number: Number, came: &Arrived, last: u32) -> Option<FragAsk>
     ensures { result ≡ asked writer number came.now last }
 {
-    match first_missing(came) {
+    match came.first_missing() {
         None => None,
         Some(first) => {
             if first >= last as usize {
