@@ -1,7 +1,7 @@
 -- What the vectors keep after registrations end tells the same as the past with that event.
 use Rattle.std.proofs.Common.{◌≡◌, ℕ, zero, suc, ◌+◌, ◌*◌, ◌^◌, ◌<◌, Bool, true, false, cond, not, ◌&&◌, ◌||◌, Option, Some, None, List, [], ◌∷◌, ◌++◌, map, length, take, drop, get_or, add-one, refl, sym, ap, ◌∙◌, subst, arith, append-nil}
 use Rattle.std.specs.Prelude.{is_some, filter, unwrap_or, option_map, slice_set, ◌==◌}
-use Rattle.dur_base.specs.declared.sample.Act.TheVariants.{Unregister}
+use Rattle.dur_base.specs.declared.sample.Act.TheVariants.{Unregister, Marker}
 use Rattle.dur_base.specs.declared.sample.Sample.{Sample}
 use Rattle.dur_qos.specs.declared.plan.Topic.{Topic}
 use Rattle.dur_view.specs.Identities.{Guid, Key}
@@ -147,6 +147,24 @@ unregisters m by w n ar x regs is up =
     both : (b : Bool) → cond b (without by []) [] ≡ []
     both true = refl
     both false = refl
+
+pub marks : (m by : ℕ) (w : Guid) (n ar : ℕ) (x : Sample) (regs : List Registered) → x.act ≡ Marker → ByPlace regs → Ends (Effect m by w n ar x) regs regs
+marks m by w n ar x regs is up =
+    record {
+      other = λ k. (let c : is_change x.act ≡ false = ap is_change is in ap (λ b. is_key x.key k && b) c ∙ never (is_key x.key k));
+      left = λ k. sym (ap (λ a. cond (is_key x.key k) (registered_by a by (places regs k)) (places regs k)) is ∙ same (is_key x.key k) (places regs k));
+      order = up;
+      nothing = ap (λ a. cond (is_change a) (record { later = 0; writer = w; number = n; arrived = Some ar; sample = x } ∷ []) []) is;
+      nobody = λ k. ap (λ a. cond (is_key x.key k) (registered_by a by []) []) is ∙ same (is_key x.key k) [];
+    }
+  where
+    never : (b : Bool) → (b && false) ≡ false
+    never true = refl
+    never false = refl
+
+    same : (b : Bool) (xs : List ℕ) → cond b xs xs ≡ xs
+    same true xs = refl
+    same false xs = refl
 
 pub loses : (m by : ℕ) (regs : List Registered) → ByPlace regs → Ends (Gone m by) regs (filter (λ r. not (r.by == by)) regs)
 loses m by regs up = record { other = λ k. refl; left = λ k. places-leave_all by regs k; order = order-without _ regs up; nothing = refl; nobody = λ k. refl }

@@ -2,7 +2,7 @@
 
 ghost use Rattle.std.specs.Prelude.{◌≡◌, ℕ, ◌+◌, ◌*◌, ◌^◌, ◌<◌, ◌≤◌, ◌&&◌, true, false, Some, None, if◌then◌else◌, List, slice_get, OnOk, IfOk};
 ghost use Rattle.dur_base.specs.declared.sample.Sample.{Sample as Told};
-ghost use Rattle.dur_base.specs.declared.sample.Act.TheVariants.{Unregister as Unregisters};
+ghost use Rattle.dur_base.specs.declared.sample.Act.TheVariants.{Unregister as Unregisters, Marker as Marks};
 ghost use Rattle.dur_view.specs.Identities.{Guid as Octets, Key as KeyOctets};
 ghost use Rattle.dur_view.specs.Words.{is_change};
 ghost use Rattle.dur_view.specs.declared.change.TopicEvent.{TopicEvent};
@@ -102,6 +102,13 @@ impl Instances {
         })
     }
 
+    /// The moment up to which events took effect, in ticks of 2^-32 s.
+    pub fn last(&self) -> Ticks
+        ensures { result ≡ self.now.last }
+    {
+        self.last
+    }
+
     /// Makes places for so many changes more. On want of memory what is kept is as it was.
     pub fn reserve(&mut self, more: usize) -> Result<(), OutOfMemory>
         ensures room { OnOk result (more ≤ self.new.room) }
@@ -197,6 +204,21 @@ impl Instances {
     {
         self.sweep(moment);
         leave(&mut self.registered, &Registered { key, by: writer });
+        settle(&mut self.cells, &self.registered, moment);
+        let longest = self.topic.delay as u64 * 4_294_967_296;
+        self.due = due_with(longest, &Some(moment), self.due);
+    }
+
+    /// A marker takes effect: it speaks of no instance.
+    pub fn marker(&mut self, moment: Ticks)
+        requires { self.old.last ≤ moment }
+        ensures stands { (p : Past) (by : ℕ) (w : Octets) (n a : ℕ) (s : Told) → s.act ≡ Marks
+            → Stands self.old p → Stands self.new (p ▹ Effect moment by w n a s) }
+        ensures settings { self.new.settings ≡ self.old.settings }
+        ensures last { self.new.last ≡ moment }
+        ensures room { self.old.room ≤ self.new.room }
+    {
+        self.sweep(moment);
         settle(&mut self.cells, &self.registered, moment);
         let longest = self.topic.delay as u64 * 4_294_967_296;
         self.due = due_with(longest, &Some(moment), self.due);

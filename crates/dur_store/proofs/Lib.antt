@@ -1,2 +1,7 @@
-mod ViewsKept
 pub mod Nothing
+mod Places
+mod Lists
+mod Writers
+mod Wholes
+mod Takings
+mod Steps

@@ -1,10 +1,16 @@
 //! One store of all topics: entries in, limits tested, what is entitled and views out.
 #![tactic(auto)]
 
+mod begin;
+mod events;
+mod index;
 mod refuse;
 mod store;
+mod taking;
 #[cfg(test)]
 mod tests;
+mod whole;
+mod writer;
 
 pub use refuse::Refuse;
 pub use store::Store;
