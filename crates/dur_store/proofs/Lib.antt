@@ -5,3 +5,4 @@ mod Writers
 mod Wholes
 mod Takings
 mod Steps
+mod Entries

@@ -1,5 +1,5 @@
 -- One entry more: what it leaves of other writers and other topics, and what becomes of its own.
-use Rattle.std.proofs.Common.{◌≡◌, ◌≢◌, ℕ, zero, suc, ◌+◌, ◌≤◌, ◌⊎◌, inl, inr, Bool, true, false, cond, not, Option, Some, None, List, [], ◌∷◌, ◌++◌, map, length, refl, sym, ap, ◌∙◌, subst, arith}
+use Rattle.std.proofs.Common.{◌≡◌, ◌≢◌, ℕ, zero, suc, ◌+◌, ◌≤◌, ◌⊎◌, inl, inr, Bool, true, false, cond, not, Some, List, [], ◌∷◌, map, length, refl, sym, ap, ◌∙◌, subst, arith}
 use Rattle.std.specs.Prelude.{slice_get, ◌==◌}
 use Rattle.std.specs.List.{list_all}
 use Rattle.std.proofs.Math.ListN.{set}
@@ -10,10 +10,10 @@ use Rattle.dur_view.specs.Identities.{Guid}
 use Rattle.dur_view.specs.declared.data.Held.{Held}
 use Rattle.dur_view.specs.declared.data.KeptWriter.{KeptWriter}
 use Rattle.dur_view.specs.declared.change.TopicEvent.{TopicEvent}
-use Rattle.dur_view.specs.Words.{is_same, topic_of, place_in}
+use Rattle.dur_view.specs.Words.{is_same, topic_of}
 use Rattle.dur_view.specs.History.{History, ◌▸◌, start, moment, moment_of, writer_of, next, next_by, held, held_by, brings, brings_to}
 use Rattle.dur_view.specs.IsSound.{IsHistory}
-use Rattle.dur_view.specs.Past.{Past, past, ◌▹▹◌}
+use Rattle.dur_view.specs.Past.{past, ◌▹▹◌}
 use Rattle.dur_view.specs.View.{line_after}
 use Rattle.dur_view.proofs.SoundTests.{each_two}
 use Rattle.dur_view.proofs.FullViews.{sound-of}
@@ -106,7 +106,7 @@ writers-put h e ws new i w at history are is line =
 
 -- ---- topics
 
-get-set : {X : Type 0} (xs : List X) (t : ℕ) (y : X) (k : ℕ) (x : X) → slice_get (set xs t y) k ≡ Some x → ((k ≡ t) × (Some y ≡ Some x)) ⊎ ((k ≢ t) × (slice_get xs k ≡ Some x))
+pub get-set : {X : Type 0} (xs : List X) (t : ℕ) (y : X) (k : ℕ) (x : X) → slice_get (set xs t y) k ≡ Some x → ((k ≡ t) × (Some y ≡ Some x)) ⊎ ((k ≢ t) × (slice_get xs k ≡ Some x))
 get-set [] t y k x at = absurd (cc)
 get-set (z ∷ xs) zero y zero x at = inl (refl, at)
 get-set (z ∷ xs) zero y (suc k) x at = inr (λ e. absurd (omega (arith, e)), at)
@@ -196,7 +196,7 @@ either-same true x = refl
 either-same false x = refl
 
 pub skip-none : (h : History) (m : ℕ) (w : Guid) (from to k : ℕ) → brings_to k h (Skip m w from to) ≡ []
-skip-none h m w from to k = either-same {List TopicEvent} (topic_of (start h) w == k) []
+skip-none h m w from to k = either-same {X = List TopicEvent} (topic_of (start h) w == k) []
 
 own-cond : {X : Type 0} (b : Bool) (x y : X) → b ≡ true → x ≡ cond b x y
 own-cond true x y is = refl

@@ -1,13 +1,10 @@
 -- What a sample that is taken in leaves, by what the answer of the sets says of it.
-use Rattle.std.proofs.Common.{◌≡◌, ℕ, ◌+◌, ◌≤◌, List, [], ◌∷◌, ◌++◌, map, length, refl, sym, ap, ◌∙◌, subst, append-nil}
+use Rattle.std.proofs.Common.{◌≡◌, ℕ, ◌+◌, ◌≤◌, List, [], ◌∷◌, ◌++◌, map, refl, sym, ap, ◌∙◌, subst, append-nil}
 use Rattle.dur_base.specs.declared.sample.Sample.{Sample}
-use Rattle.dur_base.specs.declared.entry.Entry.TheVariants.{Took}
 use Rattle.dur_view.specs.Identities.{Guid}
 use Rattle.dur_view.specs.declared.data.Held.{Held}
-use Rattle.dur_view.specs.declared.data.KeptWriter.{KeptWriter}
 use Rattle.dur_view.specs.declared.change.TopicEvent.{TopicEvent}
 use Rattle.dur_view.specs.declared.change.TopicEvent.TheVariants.{Effect}
-use Rattle.dur_view.specs.History.{brings, joined}
 use Rattle.dur_view.specs.Past.{Past, ◌▹◌, ◌▹▹◌}
 use Rattle.dur_view.proofs.SameEffects.{add_append}
 use Rattle.dur_instances.specs.Trimmed.{Trimmed}

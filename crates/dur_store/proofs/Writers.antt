@@ -1,5 +1,5 @@
 -- The writers of a store, and their next numbers.
-use Rattle.std.proofs.Common.{◌≡◌, ℕ, ◌+◌, Bool, true, false, cond, Option, Some, None, List, [], ◌∷◌, map, refl, sym, ap, ◌∙◌, subst, arith}
+use Rattle.std.proofs.Common.{◌≡◌, ℕ, ◌+◌, Bool, true, false, cond, Option, Some, None, List, [], ◌∷◌, map, refl, sym, ap, ◌∙◌, subst}
 use Rattle.std.specs.Prelude.{slice_get, option_map, unwrap_or, is_some}
 use Rattle.std.specs.List.{AllByRecursion}
 use Rattle.dur_base.specs.declared.entry.Entry.TheVariants.{Took, Skip, Lost}
@@ -15,7 +15,7 @@ use Rattle.dur_view.proofs.SameEffects.{is_same-true}
 use Rattle.dur_view.proofs.FullViews.{sound-of}
 use Rattle.dur_view.proofs.SoundWriterLaws.{own-lines}
 use Rattle.dur_store.specs.declared.writer.Writer.{Writer}
-use Rattle.dur_store.specs.Places.{guids, IsPlaceOf, HasNone, IsPlace, IsIndex}
+use Rattle.dur_store.specs.Places.{guids, IsPlace}
 use Rattle.dur_store.specs.Parts.{line_of, AreWriters}
 use Rattle.dur_store.proofs.Places.{Stands, stands-at, unknown}
 use Rattle.dur_store.proofs.Lists.{get-map}

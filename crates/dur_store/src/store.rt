@@ -93,7 +93,8 @@ impl Store {
     /// Appends the entry, whatever the limits say. On want of memory the store is as it was.
     pub fn restore(&mut self, entry: Entry) -> Result<(), OutOfMemory>
         requires { HasShortNumber entry }
-        ensures ok { OnOk result ((h : History) → Keeps self.old h → Follows h entry → Keeps self.new (h ▸ entry)) }
+        ensures ok { OnOk result ((h : History) → Keeps self.old h → Follows h entry
+            → Keeps self.new (h ▸ entry)) }
         ensures err { OnErr result ((h : History) → Keeps self.old h → Keeps self.new h) }
     {
         let alloc = self.outline.topics.alloc();
@@ -127,7 +128,9 @@ impl Store {
         sample: Sample,
     ) -> Result<(), Sample>
         requires { number < 2 ^ 63 - 1 }
-        ensures ok { OnOk result ((h : History) → Keeps self.old h → Follows h (Takes moment writer number sample) → Keeps self.new (h ▸ Takes moment writer number sample)) }
+        ensures ok { OnOk result ((h : History) → Keeps self.old h
+            → Follows h (Takes moment writer number sample)
+            → Keeps self.new (h ▸ Takes moment writer number sample)) }
         ensures err { OnErr result ((h : History) → Keeps self.old h → Keeps self.new h) }
         ensures back { IfErr result (λ back. back ≡ sample) }
     {
@@ -169,7 +172,9 @@ impl Store {
         to: Number,
     ) -> Result<(), OutOfMemory>
         requires { to < 2 ^ 63 - 1 }
-        ensures ok { OnOk result ((h : History) (from : ℕ) → Keeps self.old h → Follows h (Skips moment writer from to) → Keeps self.new (h ▸ Skips moment writer from to)) }
+        ensures ok { OnOk result ((h : History) (from : ℕ) → Keeps self.old h
+            → Follows h (Skips moment writer from to)
+            → Keeps self.new (h ▸ Skips moment writer from to)) }
         ensures err { OnErr result ((h : History) → Keeps self.old h → Keeps self.new h) }
     {
         let Some(place) = place_of(&self.index, writer) else {
@@ -187,7 +192,9 @@ impl Store {
 
     // A writer is lost: its registrations end, and its open set is broken.
     fn lose(&mut self, alloc: Global, moment: Ticks, writer: Guid) -> Result<(), OutOfMemory>
-        ensures ok { OnOk result ((h : History) → Keeps self.old h → Follows h (Loses moment writer) → Keeps self.new (h ▸ Loses moment writer)) }
+        ensures ok { OnOk result ((h : History) → Keeps self.old h
+            → Follows h (Loses moment writer)
+            → Keeps self.new (h ▸ Loses moment writer)) }
         ensures err { OnErr result ((h : History) → Keeps self.old h → Keeps self.new h) }
     {
         let Some(place) = place_of(&self.index, writer) else {

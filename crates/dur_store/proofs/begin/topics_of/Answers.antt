@@ -1,4 +1,4 @@
-use Rattle.std.proofs.Common.{List, [], ◌∷◌, length-append, sym, subst, arith, ◌∙◌, ap}
+use Rattle.std.proofs.Common.{List, sym, subst, arith}
 use Rattle.dur_view.specs.History.{Start}
 use Rattle.dur_instances.specs.Trimmed.{Trimmed}
 use Rattle.dur_store.specs.Parts.{AreTopics}

@@ -1,4 +1,4 @@
-use Rattle.std.proofs.Common.{ℕ, ◌+◌, ◌≤◌, length, map}
+use Rattle.std.proofs.Common.{◌+◌, ◌≤◌, length, map}
 use Rattle.dur_view.specs.Past.{Past}
 use Rattle.dur_instances.specs.Stands.{Stands}
 use Rattle.dur_sets.specs.Tells.{takes_effect}

@@ -1,12 +1,8 @@
-use Rattle.std.proofs.Common.{◌≡◌, ℕ, ◌+◌, ◌≤◌, List, [], ◌∷◌, ◌++◌, map, length, refl, sym, ap, ◌∙◌, subst, arith}
-use Rattle.dur_view.specs.declared.data.Held.{Held}
+use Rattle.std.proofs.Common.{refl, ap, ◌∙◌, arith}
 use Rattle.dur_view.specs.declared.change.TopicEvent.TheVariants.{Effect}
-use Rattle.dur_view.specs.Past.{Past, ◌▹◌, ◌▹▹◌}
 use Rattle.dur_instances.specs.Trimmed.{Trimmed}
-use Rattle.dur_instances.specs.Stands.{Stands}
 use Rattle.dur_sets.specs.declared.effect.Now.{Now}
-use Rattle.dur_sets.specs.declared.effect.Now.TheVariants as itself
-use Rattle.dur_sets.specs.Tells.{closed, left, if_now, takes_effect}
+use Rattle.dur_sets.specs.Tells.{closed, if_now, takes_effect}
 use Rattle.dur_store.specs.declared.writer.Writer.{Writer}
 use Rattle.dur_store.proofs.Takings.{whole-of, takes-by, member_of, held-now, held-drop, held-hold, brought, brought-now, new-line}
 use Rattle.dur_store.proofs.taking.take_in.Goals.{in-Now, in-Hold+in-Ok-hold, in-Drop}

@@ -1,4 +1,4 @@
-use Rattle.std.proofs.Common.{◌∙◌, sym, ap}
+use Rattle.std.proofs.Common.{◌∙◌, sym}
 use Rattle.dur_store.specs.Places.{found}
 use Rattle.dur_store.proofs.Lists.{got, got-none}
 use Rattle.dur_store.proofs.Writers.{next-none, kept-at, next-at, none-at}

@@ -1,6 +1,4 @@
-use Rattle.std.proofs.Common.{◌≡◌, ap, subst, ◌∙◌}
-use Rattle.dur_view.specs.History.{Start}
-use Rattle.dur_view.specs.declared.data.View.{View}
+use Rattle.std.proofs.Common.{subst}
 use Rattle.dur_view.specs.declared.data.KeptWriter.{KeptWriter}
 use Rattle.std.proofs.Common.{List}
 use Rattle.dur_store.specs.Places.{guids, found, IsIndex}

@@ -1,4 +1,4 @@
-use Rattle.std.proofs.Common.{◌≡◌, ap, sym, ◌∙◌, subst, List, ℕ, ◌≤◌, length}
+use Rattle.std.proofs.Common.{ap, sym, ◌∙◌, subst, List, ◌≤◌, length}
 use Rattle.dur_view.specs.declared.data.View.{View}
 use Rattle.dur_instances.specs.Trimmed.{Trimmed}
 use Rattle.dur_store.specs.declared.writer.Writer.{Writer}
