@@ -5,3 +5,6 @@ mod Writers
 mod Wholes
 mod Takings
 mod Steps
+mod Counted
+mod Refusing
+mod Admissions

@@ -78,7 +78,7 @@ back-by u w true is other = absurd (let same = is_same-true w u is in let own = 
 back-by u w false is other = refl
 
 -- the list with the line of the entry's writer put
-put-lines : (h : History) (e : Entry) (ws : List KeptWriter) (i : ℕ) (line : KeptWriter) → each_two (λ a b. not (is_same a.guid b.guid)) ws ≡ true → slice_get ws i ≡ Some line → writer_of e ≡ line.guid
+pub put-lines : (h : History) (e : Entry) (ws : List KeptWriter) (i : ℕ) (line : KeptWriter) → each_two (λ a b. not (is_same a.guid b.guid)) ws ≡ true → slice_get ws i ≡ Some line → writer_of e ≡ line.guid
     → set (map (line_after h) ws) i (line_after (h ▸ e) line) ≡ map (line_after (h ▸ e)) ws
 put-lines h e [] i line differ at by = absurd (cc)
 put-lines h e (z ∷ ws) zero line differ at by =
@@ -196,7 +196,7 @@ either-same true x = refl
 either-same false x = refl
 
 pub skip-none : (h : History) (m : ℕ) (w : Guid) (from to k : ℕ) → brings_to k h (Skip m w from to) ≡ []
-skip-none h m w from to k = either-same {List TopicEvent} (topic_of (start h) w == k) []
+skip-none h m w from to k = either-same {X = List TopicEvent} (topic_of (start h) w == k) []
 
 own-cond : {X : Type 0} (b : Bool) (x y : X) → b ≡ true → x ≡ cond b x y
 own-cond true x y is = refl
