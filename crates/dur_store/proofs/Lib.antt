@@ -7,4 +7,3 @@ mod Takings
 mod Steps
 mod Counted
 mod Refusing
-mod Admissions

@@ -106,7 +106,7 @@ writers-put h e ws new i w at history are is line =
 
 -- ---- topics
 
-get-set : {X : Type 0} (xs : List X) (t : ℕ) (y : X) (k : ℕ) (x : X) → slice_get (set xs t y) k ≡ Some x → ((k ≡ t) × (Some y ≡ Some x)) ⊎ ((k ≢ t) × (slice_get xs k ≡ Some x))
+pub get-set : {X : Type 0} (xs : List X) (t : ℕ) (y : X) (k : ℕ) (x : X) → slice_get (set xs t y) k ≡ Some x → ((k ≡ t) × (Some y ≡ Some x)) ⊎ ((k ≢ t) × (slice_get xs k ≡ Some x))
 get-set [] t y k x at = absurd (cc)
 get-set (z ∷ xs) zero y zero x at = inl (refl, at)
 get-set (z ∷ xs) zero y (suc k) x at = inr (λ e. absurd (omega (arith, e)), at)
