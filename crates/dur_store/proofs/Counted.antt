@@ -1,8 +1,7 @@
 -- The samples that take effect with one, and what is counted against the limits of their topic.
-use Rattle.std.proofs.Common.{◌≡◌, ℕ, zero, suc, ◌+◌, ◌-◌, ◌<◌, ◌≤◌, Bool, true, false, cond, Option, Some, None, List, [], ◌∷◌, ◌++◌, map, length, get_or, refl, sym, ap, ◌∙◌, subst, arith}
-use Rattle.std.specs.Prelude.{◌==◌, slice_get, option_map, unwrap_or, sum_by, max}
+use Rattle.std.proofs.Common.{◌≡◌, ℕ, ◌+◌, ◌-◌, ◌<◌, ◌≤◌, Bool, true, false, cond, Option, Some, None, List, [], ◌∷◌, ◌++◌, map, length, get_or, refl, sym, ap, ◌∙◌, subst, arith}
+use Rattle.std.specs.Prelude.{slice_get, option_map, sum_by}
 use Rattle.std.proofs.Math.ListN.{set}
-use Rattle.std.proofs.Math.Nat.{max-eq_left}
 use Rattle.std.proofs.lemmas.Bool.{eq-eqb, le-ltb}
 use Rattle.std.proofs.lemmas.List.Folds.{fold-map}
 use Rattle.std.proofs.lemmas.List.Sums.{sum_by-set, get_or-le-sum_by}
@@ -16,37 +15,25 @@ use Rattle.dur_view.specs.declared.change.TopicEvent.{TopicEvent}
 use Rattle.dur_view.specs.declared.change.TopicEvent.TheVariants.{Effect}
 use Rattle.dur_view.specs.declared.data.Held.{Held as Member}
 use Rattle.dur_view.specs.declared.data.KeptWriter.{KeptWriter}
-use Rattle.dur_view.specs.declared.data.View.{View}
 use Rattle.dur_view.specs.declared.limit.Limit.{Limit}
 use Rattle.dur_view.specs.declared.limit.Limit.TheVariants.{Instances, PerInstance, Samples, Held}
-use Rattle.dur_view.specs.Words.{topic_of}
-use Rattle.dur_view.specs.History.{History, ◌▸◌, start, moment, writer_of, next, held, joined, brings, brings_to, Follows}
+use Rattle.dur_view.specs.History.{History, ◌▸◌, start, writer_of, held, brings}
 use Rattle.dur_view.specs.IsSound.{IsHistory}
-use Rattle.dur_view.specs.Past.{Past, ◌▹▹◌, past, no_topic}
-use Rattle.dur_view.specs.Fates.{settings, Told}
+use Rattle.dur_view.specs.Fates.{Told}
 use Rattle.dur_view.specs.View.{line_after}
-use Rattle.dur_view.specs.Refused.{is_over, passed, held_in, limit_of, refused}
+use Rattle.dur_view.specs.Refused.{is_over, passed, held_in}
 use Rattle.dur_view.proofs.FullViews.{sound-of}
-use Rattle.dur_view.proofs.Parts.{settings-past}
-use Rattle.dur_instances.specs.Trimmed.{Trimmed}
-use Rattle.dur_instances.specs.Stands.{Stands as Tells-past}
 use Rattle.dur_instances.specs.Would.{TakeEffect, none, one}
 use Rattle.dur_sets.specs.declared.effect.Effect.{Effect as Answer}
 use Rattle.dur_sets.specs.declared.effect.Now.{Now}
 use Rattle.dur_sets.specs.declared.effect.Now.TheVariants as itself
-use Rattle.dur_sets.specs.Stands.{StandFor}
-use Rattle.dur_sets.specs.Tells.{Tells, closed, left, if_now, if_held, takes_effect}
-use Rattle.dur_store.specs.declared.store.Store.{Store}
+use Rattle.dur_sets.specs.Tells.{Tells, closed, if_now, takes_effect}
 use Rattle.dur_store.specs.declared.writer.Writer.{Writer}
-use Rattle.dur_store.specs.Keeps.{Keeps}
-use Rattle.dur_store.specs.Parts.{line_of, AreWriters, IsTopic}
-use Rattle.dur_store.specs.Taking.{IsWhole}
-use Rattle.dur_store.specs.Limits.{held_for, members_in, members_then, limit_at}
+use Rattle.dur_store.specs.Parts.{line_of, AreWriters}
+use Rattle.dur_store.specs.Limits.{held_for, members_in}
 use Rattle.dur_store.proofs.Lists.{get-map}
 use Rattle.dur_store.proofs.Places.{Stands}
-use Rattle.dur_store.proofs.Steps.{put-lines, own-brings, took-line}
-use Rattle.dur_store.proofs.Takings.{whole-of, member_of}
-use Rattle.dur_store.proofs.Writers.{Kept}
+use Rattle.dur_store.proofs.Steps.{put-lines}
 
 -- ---- the samples
 

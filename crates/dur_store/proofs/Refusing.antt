@@ -1,8 +1,7 @@
 -- What the next sample of a writer is refused for, by what a store keeps.
-use Rattle.std.proofs.Common.{◌≡◌, ℕ, ◌+◌, ◌-◌, ◌≤◌, Bool, Option, Some, None, List, ◌++◌, map, length, refl, sym, ap, ◌∙◌, subst, arith}
+use Rattle.std.proofs.Common.{◌≡◌, ℕ, ◌+◌, ◌-◌, ◌≤◌, Bool, Option, Some, List, ◌++◌, map, length, refl, sym, ap, ◌∙◌, subst, arith}
 use Rattle.std.specs.Prelude.{slice_get, option_map, unwrap_or, max}
 use Rattle.std.proofs.Math.Nat.{max-eq_left}
-use Rattle.dur_base.specs.declared.entry.Entry.{Entry}
 use Rattle.dur_base.specs.declared.entry.Entry.TheVariants.{Took}
 use Rattle.dur_base.specs.declared.sample.Sample.{Sample}
 use Rattle.dur_qos.specs.declared.plan.Topic.{Topic}
@@ -12,7 +11,6 @@ use Rattle.dur_view.specs.declared.data.Held.{Held}
 use Rattle.dur_view.specs.declared.data.KeptWriter.{KeptWriter}
 use Rattle.dur_view.specs.declared.data.View.{View}
 use Rattle.dur_view.specs.declared.limit.Limit.{Limit}
-use Rattle.dur_view.specs.Words.{topic_of}
 use Rattle.dur_view.specs.History.{History, ◌▸◌, start, next, held, joined, brings, brings_to, Follows}
 use Rattle.dur_view.specs.IsSound.{IsHistory}
 use Rattle.dur_view.specs.Past.{Past, ◌▹▹◌, past, no_topic}

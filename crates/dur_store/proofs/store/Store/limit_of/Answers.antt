@@ -2,8 +2,7 @@ use Rattle.std.proofs.Common.{ℕ, Option, List, ◌++◌, map, sym, ap, ◌∙�
 use Rattle.std.specs.Prelude.{max}
 use Rattle.dur_base.specs.declared.sample.SetMark.{SetMark}
 use Rattle.dur_view.specs.declared.data.Held.{Held}
-use Rattle.dur_view.specs.declared.data.KeptWriter.{KeptWriter}
-use Rattle.dur_view.specs.History.{History, held}
+use Rattle.dur_view.specs.History.{held}
 use Rattle.dur_view.specs.Refused.{is_over}
 use Rattle.dur_sets.specs.Tells.{Tells, closed, if_now}
 use Rattle.dur_store.specs.declared.writer.Writer.{Writer}
