@@ -6,3 +6,5 @@ mod Wholes
 mod Takings
 mod Steps
 mod Entries
+mod Counted
+mod Refusing

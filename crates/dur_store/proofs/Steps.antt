@@ -78,7 +78,7 @@ back-by u w true is other = absurd (let same = is_same-true w u is in let own = 
 back-by u w false is other = refl
 
 -- the list with the line of the entry's writer put
-put-lines : (h : History) (e : Entry) (ws : List KeptWriter) (i : ℕ) (line : KeptWriter) → each_two (λ a b. not (is_same a.guid b.guid)) ws ≡ true → slice_get ws i ≡ Some line → writer_of e ≡ line.guid
+pub put-lines : (h : History) (e : Entry) (ws : List KeptWriter) (i : ℕ) (line : KeptWriter) → each_two (λ a b. not (is_same a.guid b.guid)) ws ≡ true → slice_get ws i ≡ Some line → writer_of e ≡ line.guid
     → set (map (line_after h) ws) i (line_after (h ▸ e) line) ≡ map (line_after (h ▸ e)) ws
 put-lines h e [] i line differ at by = absurd (cc)
 put-lines h e (z ∷ ws) zero line differ at by =

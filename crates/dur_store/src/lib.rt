@@ -4,7 +4,9 @@
 mod begin;
 mod events;
 mod index;
+mod limits;
 mod refuse;
+mod room;
 mod store;
 mod taking;
 #[cfg(test)]

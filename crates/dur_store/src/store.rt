@@ -10,11 +10,15 @@ ghost use Rattle.dur_view.specs.View.{view};
 ghost use Rattle.dur_view.specs.Persistent.{persistent};
 ghost use Rattle.dur_view.specs.Past.{past};
 ghost use Rattle.dur_view.specs.Snapshot.{snap};
+ghost use Rattle.dur_view.specs.Refused.{refused};
 ghost use Rattle.dur_store.specs.Keeps.{Keeps};
+ghost use Rattle.dur_store.specs.Admitting.{Admitting};
 
 use crate::Refuse;
 use crate::begin::topics_of;
 use crate::index::{index_of, place_of};
+use crate::limits::{is_held_over, limit_with, max_held_of, samples_of};
+use crate::room::make_room;
 use crate::taking::take_in;
 use crate::whole::parts_of;
 use crate::writer::{Writer, let_go, lines_of, pass_over, writers_of};
@@ -22,7 +26,7 @@ use dur_base::{Entry, Guid, List, Number, OutOfMemory, Sample, SetMark, Ticks, l
 use dur_instances::Instances;
 use dur_qos::Plan;
 use dur_sets::Sets;
-use dur_view::{Snapshot, View, full_views_are_sound};
+use dur_view::{Limit, Snapshot, View, full_views_are_sound};
 use std::alloc::Global;
 use std::collections::HashMap;
 
@@ -88,6 +92,105 @@ impl Store {
             sets,
             topics,
         })
+    }
+
+    /// Makes room for the next entry.
+    pub fn reserve(&mut self) -> Result<(), OutOfMemory>
+        ensures { (h : History) → Keeps self.old h → Keeps self.new h }
+    {
+        make_room(&mut self.topics)
+    }
+
+    /// Appends the entry, unless it would pass a limit of its topic at its moment: then it is refused for the first of
+    /// them and handed back. A skip and a loss pass none. Refused or on want of memory, the store is as it was.
+    pub fn admit(&mut self, alloc: Global, entry: Entry) -> Result<(), (Refuse, Entry)>
+        requires { HasShortNumber entry }
+        ensures { Admitting self.old entry self.new result }
+    {
+        match entry {
+            Entry::Took {
+                moment,
+                writer,
+                number,
+                sample,
+            } => self.admit_sample(alloc, moment, writer, number, sample),
+            Entry::Skip {
+                moment,
+                writer,
+                from,
+                to,
+            } => match self.skip(alloc, moment, writer, to) {
+                Ok(()) => Ok(()),
+                Err(_) => Err((
+                    Refuse::OutOfMemory,
+                    Entry::Skip {
+                        moment,
+                        writer,
+                        from,
+                        to,
+                    },
+                )),
+            },
+            Entry::Lost { moment, writer } => match self.lose(alloc, moment, writer) {
+                Ok(()) => Ok(()),
+                Err(_) => Err((Refuse::OutOfMemory, Entry::Lost { moment, writer })),
+            },
+        }
+    }
+
+    // The same of a sample, the next of its writer.
+    fn admit_sample(
+        &mut self,
+        alloc: Global,
+        moment: Ticks,
+        writer: Guid,
+        number: Number,
+        sample: Sample,
+    ) -> Result<(), (Refuse, Entry)>
+        requires { number < 2 ^ 63 - 1 }
+        ensures { Admitting self.old (Takes moment writer number sample) self.new result }
+    {
+        match self.limit_of(alloc, moment, writer, number, &sample) {
+            Ok(None) => match self.take(alloc, moment, writer, number, sample) {
+                Ok(()) => Ok(()),
+                Err(sample) => Err((Refuse::OutOfMemory, took(moment, writer, number, sample))),
+            },
+            Ok(Some(limit)) => Err((
+                Refuse::for_limit(limit),
+                took(moment, writer, number, sample),
+            )),
+            Err(_) => Err((Refuse::OutOfMemory, took(moment, writer, number, sample))),
+        }
+    }
+
+    // The first limit of its topic that the next sample of a writer would pass.
+    fn limit_of(
+        &self,
+        alloc: Global,
+        moment: Ticks,
+        writer: Guid,
+        number: Number,
+        sample: &Sample,
+    ) -> Result<Option<Limit>, OutOfMemory>
+        ensures { IfOk result (λ l. (h : History) → Keeps self.now h
+            → Follows h (Takes moment writer number sample.now)
+            → l ≡ refused h (Takes moment writer number sample.now)) }
+    {
+        let Some(place) = place_of(&self.index, writer) else {
+            return Err(OutOfMemory);
+        };
+        let Some(line) = self.writers.get(place as usize) else {
+            return Err(OutOfMemory);
+        };
+        let Some(topic) = self.topics.get(line.topic as usize) else {
+            return Err(OutOfMemory);
+        };
+        let effect = self.sets.effect(place, number, mark_of(sample));
+        let samples = samples_of(alloc, &line.held, &effect, sample)?;
+        let max_held = max_held_of(&self.outline, line.topic as usize);
+        let is_over = is_held_over(max_held, &self.writers, line, &effect);
+        let taken = later(moment, topic.last());
+        Ok(limit_with(topic, samples.as_slice(), taken, is_over))
     }
 
     /// Appends the entry, whatever the limits say. On want of memory the store is as it was.
@@ -288,6 +391,18 @@ impl Store {
             instances,
             kept,
         })
+    }
+}
+
+// The entry of a sample.
+fn took(moment: Ticks, writer: Guid, number: Number, sample: Sample) -> Entry
+    ensures { result ≡ Takes moment writer number sample }
+{
+    Entry::Took {
+        moment,
+        writer,
+        number,
+        sample,
     }
 }
 
