@@ -1,7 +1,7 @@
 -- What the vectors keep after registrations end tells the same as the past with that event.
 use Rattle.std.proofs.Common.{◌≡◌, ℕ, zero, suc, ◌+◌, ◌*◌, ◌^◌, ◌<◌, Bool, true, false, cond, not, ◌&&◌, ◌||◌, Option, Some, None, List, [], ◌∷◌, ◌++◌, map, length, take, drop, get_or, add-one, refl, sym, ap, ◌∙◌, subst, arith, append-nil}
 use Rattle.std.specs.Prelude.{is_some, filter, unwrap_or, option_map, slice_set, ◌==◌}
-use Rattle.dur_base.specs.declared.sample.Act.TheVariants.{Unregister, Marker}
+use Rattle.dur_base.specs.declared.sample.Act.TheVariants.{Unregister}
 use Rattle.dur_base.specs.declared.sample.Sample.{Sample}
 use Rattle.dur_qos.specs.declared.plan.Topic.{Topic}
 use Rattle.dur_view.specs.Identities.{Guid, Key}
@@ -58,7 +58,7 @@ pub record Ends (e : TopicEvent) (regs regs2 : List Registered) : Type 0 where
   pub nothing : late_by e ≡ []
   pub nobody : (k : Key) → registered_after e k [] ≡ []
 
-kept-all : (depth : Option ℕ) (e : TopicEvent) → ((k : Key) → is_of k e ≡ false) → (cs : List Late) → map (late_after depth e) cs ≡ cs
+pub kept-all : (depth : Option ℕ) (e : TopicEvent) → ((k : Key) → is_of k e ≡ false) → (cs : List Late) → map (late_after depth e) cs ≡ cs
 kept-all depth e other [] = refl
 kept-all depth e other (c ∷ cs) = let one = at depth in let rest = kept-all depth e other cs in cc
   where
@@ -147,24 +147,6 @@ unregisters m by w n ar x regs is up =
     both : (b : Bool) → cond b (without by []) [] ≡ []
     both true = refl
     both false = refl
-
-pub marks : (m by : ℕ) (w : Guid) (n ar : ℕ) (x : Sample) (regs : List Registered) → x.act ≡ Marker → ByPlace regs → Ends (Effect m by w n ar x) regs regs
-marks m by w n ar x regs is up =
-    record {
-      other = λ k. (let c : is_change x.act ≡ false = ap is_change is in ap (λ b. is_key x.key k && b) c ∙ never (is_key x.key k));
-      left = λ k. sym (ap (λ a. cond (is_key x.key k) (registered_by a by (places regs k)) (places regs k)) is ∙ same (is_key x.key k) (places regs k));
-      order = up;
-      nothing = ap (λ a. cond (is_change a) (record { later = 0; writer = w; number = n; arrived = Some ar; sample = x } ∷ []) []) is;
-      nobody = λ k. ap (λ a. cond (is_key x.key k) (registered_by a by []) []) is ∙ same (is_key x.key k) [];
-    }
-  where
-    never : (b : Bool) → (b && false) ≡ false
-    never true = refl
-    never false = refl
-
-    same : (b : Bool) (xs : List ℕ) → cond b xs xs ≡ xs
-    same true xs = refl
-    same false xs = refl
 
 pub loses : (m by : ℕ) (regs : List Registered) → ByPlace regs → Ends (Gone m by) regs (filter (λ r. not (r.by == by)) regs)
 loses m by regs up = record { other = λ k. refl; left = λ k. places-leave_all by regs k; order = order-without _ regs up; nothing = refl; nobody = λ k. refl }

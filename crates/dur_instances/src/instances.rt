@@ -209,7 +209,7 @@ impl Instances {
         self.due = due_with(longest, &Some(moment), self.due);
     }
 
-    /// A marker takes effect: it speaks of no instance.
+    /// A marker takes effect: it speaks of no instance, so what is kept stays as it is.
     pub fn marker(&mut self, moment: Ticks)
         requires { self.old.last ≤ moment }
         ensures stands { (p : Past) (by : ℕ) (w : Octets) (n a : ℕ) (s : Told) → s.act ≡ Marks
@@ -219,9 +219,7 @@ impl Instances {
         ensures room { self.old.room ≤ self.new.room }
     {
         self.sweep(moment);
-        settle(&mut self.cells, &self.registered, moment);
-        let longest = self.topic.delay as u64 * 4_294_967_296;
-        self.due = due_with(longest, &Some(moment), self.due);
+        self.last = moment;
     }
 
     /// The writer at a place of the view, from 0, is lost.
