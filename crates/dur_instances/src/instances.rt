@@ -1,6 +1,6 @@
 //! The instances and kept changes of one topic.
 
-ghost use Rattle.std.specs.Prelude.{◌≡◌, ℕ, ◌+◌, ◌*◌, ◌^◌, ◌<◌, ◌≤◌, ◌&&◌, true, false, Some, None, if◌then◌else◌, List, slice_get, OnOk, IfOk};
+ghost use Rattle.std.specs.Prelude.{◌≡◌, ℕ, ◌+◌, ◌*◌, ◌^◌, ◌<◌, ◌≤◌, ◌&&◌, true, false, Some, None, Ok, if◌then◌else◌, List, slice_get, OnOk, IfOk};
 ghost use Rattle.dur_base.specs.declared.sample.Sample.{Sample as Told};
 ghost use Rattle.dur_base.specs.declared.sample.Act.TheVariants.{Unregister as Unregisters, Marker as Marks};
 ghost use Rattle.dur_view.specs.Identities.{Guid as Octets, Key as KeyOctets};
@@ -109,9 +109,12 @@ impl Instances {
         self.last
     }
 
-    /// Makes places for so many changes more. On want of memory what is kept is as it was.
+    /// Makes places for so many changes more. On want of memory what is kept is as it was. Where there is room for
+    /// them there is no want of memory.
     pub fn reserve(&mut self, more: usize) -> Result<(), OutOfMemory>
         ensures room { OnOk result (more ≤ self.new.room) }
+        ensures enough { more ≤ self.old.room → result ≡ Ok tt }
+        ensures stays { self.old.room ≤ self.new.room }
         ensures rest { self.new ≡ record self.old { room = self.new.room } }
     {
         match self.cells.reserve(more) {
