@@ -9,7 +9,7 @@ ghost use Rattle.dur_view.specs.declared.change.TopicEvent.{TopicEvent};
 ghost use Rattle.dur_view.specs.declared.change.TopicEvent.TheVariants.{Effect, Gone};
 ghost use Rattle.dur_view.specs.Past.{Past, Begin, part, ◌▹◌, ◌▹▹◌};
 ghost use Rattle.dur_view.specs.IsSound.{IsSound};
-ghost use Rattle.dur_instances.specs.Layout.{places};
+ghost use Rattle.dur_instances.specs.Layout.{places, InOrder};
 ghost use Rattle.dur_view.specs.Fates.{is_long, is_nobody, disposes, settings, existing, entitled};
 ghost use Rattle.dur_view.specs.Refused.{passed};
 ghost use Rattle.dur_instances.specs.Trimmed.{row_at, blank};
@@ -19,7 +19,7 @@ ghost use Rattle.dur_instances.specs.Stands.{Stands};
 ghost use Rattle.dur_instances.specs.Kept.{NoneIsOver};
 ghost use Rattle.dur_instances.specs.Would.{TakeEffect};
 
-use crate::cells::{self, Cell, Sorted, count_after, count_of, put, settle};
+use crate::cells::{self, Cell, Sorted, count_after, count_of, put, settle, settle_one};
 use crate::changes::Change;
 use crate::due::{due_by, due_of, due_with, is_before};
 use crate::from_view::{cells_of, changes_of, registered_of};
@@ -207,9 +207,9 @@ impl Instances {
     {
         self.sweep(moment);
         leave(&mut self.registered, &Registered { key, by: writer });
-        settle(&mut self.cells, &self.registered, moment);
+        let quiet = settle_one(&mut self.cells, &self.registered, key, moment);
         let longest = self.topic.delay as u64 * 4_294_967_296;
-        self.due = due_with(longest, &Some(moment), self.due);
+        self.due = due_with(longest, &quiet, self.due);
     }
 
     /// A marker takes effect: it speaks of no instance, so what is kept stays as it is.
@@ -319,6 +319,7 @@ fn disposes(act: Act) -> bool
 
 // When an instance becomes quiet at the moment, if it does.
 fn quiet_from(disposed: bool, list: &[Registered], key: Key, moment: Ticks) -> Option<Ticks>
+    requires { InOrder list.now }
     ensures { result ≡ (if disposed && is_nobody (places list.now key) then Some moment else None) }
 {
     if disposed && is_nobody(list, key) {

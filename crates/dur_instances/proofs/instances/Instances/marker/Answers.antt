@@ -1,8 +1,7 @@
-use Rattle.std.proofs.Common.{◌≡◌, ℕ, ◌*◌, ◌^◌, false, sym, ap, subst, arith}
+use Rattle.std.proofs.Common.{◌≡◌, ◌*◌, ◌^◌, false, sym, ap, subst, arith}
 use Rattle.dur_view.specs.Identities.{Key}
 use Rattle.dur_view.specs.Past.{◌▹◌}
 use Rattle.dur_view.specs.Fates.{is_long}
-use Rattle.dur_view.specs.Later.{SameFrom}
 use Rattle.dur_view.specs.declared.change.TopicEvent.TheVariants.{Effect}
 use Rattle.dur_view.proofs.SameLaw.{same-trans, same-step}
 use Rattle.dur_instances.specs.Trimmed.{Trimmed, begun, row_at}
