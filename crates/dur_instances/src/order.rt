@@ -1,6 +1,6 @@
 //! Kept changes in the order of effect, each with the place of the next one of its instance.
 
-ghost use Rattle.std.specs.Prelude.{◌≡◌, ℕ, ◌+◌, ◌<◌, ◌≤◌, ◌++◌, [], ◌∷◌, not, ◌&&◌, filter, length, Some, vec_len, vec_capacity, if◌then◌else◌, IfOk, OnOk};
+ghost use Rattle.std.specs.Prelude.{◌≡◌, ℕ, ◌+◌, ◌<◌, ◌≤◌, ◌++◌, [], ◌∷◌, not, ◌&&◌, filter, length, Some, Ok, vec_len, vec_capacity, if◌then◌else◌, IfOk, OnOk};
 ghost use Rattle.std.specs.HashMap.{spare};
 ghost use Rattle.dur_view.specs.Identities.{Key as KeyOctets};
 ghost use Rattle.dur_view.specs.Words.{is_key};
@@ -152,6 +152,8 @@ impl Changes {
     fn widen(&mut self, more: usize) -> Result<(), OutOfMemory>
         ensures items { self.new.items ≡ self.old.items }
         ensures room { OnOk result (more ≤ self.new.room) }
+        ensures enough { more ≤ self.old.room → result ≡ Ok tt }
+        ensures stays { self.old.room ≤ self.new.room }
     {
         match self.places.reserve(more) {
             Ok(()) => {}
@@ -165,8 +167,10 @@ impl Changes {
 
     // Places for these and so many more, without those at which none is kept.
     fn renew(&mut self, more: usize) -> Result<(), OutOfMemory>
+        requires { self.old.room ≤ more }
         ensures items { self.new.items ≡ self.old.items }
         ensures room { OnOk result (more ≤ self.new.room) }
+        ensures stays { self.old.room ≤ self.new.room }
     {
         let all = match count_kept(&self.places).checked_add(more) {
             Some(all) => all,
@@ -179,10 +183,13 @@ impl Changes {
         Ok(())
     }
 
-    /// Makes places for so many more. On want of memory the changes are as they were.
+    /// Makes places for so many more. On want of memory the changes are as they were. Where there is room
+    /// there is no want of memory.
     pub fn reserve(&mut self, more: usize) -> Result<(), OutOfMemory>
         ensures items { self.new.items ≡ self.old.items }
         ensures room { OnOk result (more ≤ self.new.room) }
+        ensures enough { more ≤ self.old.room → result ≡ Ok tt }
+        ensures stays { self.old.room ≤ self.new.room }
     {
         let left = self.places.capacity() - self.places.len();
         if left < more && count_kept(&self.places) <= self.places.len() / 2 {

@@ -1,65 +1,26 @@
-use Rattle.std.proofs.Common.{◌≡◌, ℕ, ◌*◌, ◌^◌, ◌≤◌, Some, false, None, [], List, map, refl, sym, ap, ◌∙◌, subst, arith}
-use Rattle.std.specs.Prelude.{not, filter}
-use Rattle.dur_base.specs.declared.sample.Sample.{Sample}
-use Rattle.dur_base.specs.declared.sample.Act.TheVariants.{Marker}
-use Rattle.dur_base.specs.declared.sample.SetMark.TheVariants.{NoSet}
-use Rattle.dur_base.specs.declared.sample.Form.TheVariants.{Nothing}
-use Rattle.dur_view.specs.Identities.{Guid, Key}
+use Rattle.std.proofs.Common.{◌≡◌, ◌*◌, ◌^◌, false, sym, ap, subst, arith}
+use Rattle.dur_view.specs.Identities.{Key}
 use Rattle.dur_view.specs.Past.{◌▹◌}
 use Rattle.dur_view.specs.Fates.{is_long}
-use Rattle.dur_view.specs.Later.{SameFrom}
 use Rattle.dur_view.specs.declared.change.TopicEvent.TheVariants.{Effect}
 use Rattle.dur_view.proofs.SameLaw.{same-trans, same-step}
-use Rattle.dur_instances.specs.declared.cells.Cell.{Cell}
-use Rattle.dur_instances.specs.declared.registered.Registered.{Registered}
 use Rattle.dur_instances.specs.Trimmed.{Trimmed, begun, row_at}
 use Rattle.dur_instances.specs.Stands.{Stands}
-use Rattle.dur_instances.specs.Layout.{settled, is_one}
-use Rattle.dur_instances.specs.Due.{due_of, due_with}
 use Rattle.dur_instances.specs.contracts.instances.Instances.{the_view}
-use Rattle.dur_instances.proofs.Applied.{After}
-use Rattle.dur_instances.proofs.BeforeDue.{after-ends}
-use Rattle.dur_instances.proofs.Settled.{settles, marks}
+use Rattle.dur_instances.proofs.Marked.{idles, marks}
 use Rattle.dur_instances.proofs.instances.Instances.marker.Goals as goal
 
-after : (c : goal.After-self-1) (by : ℕ) (w : Guid) (n ar : ℕ) (x : Sample) → x.act ≡ Marker
-    → After c.self.inside.topic c.self.inside.cells.items c.settle.new.cells.items c.self.inside.registered.items c.self.inside.registered.items c.self.inside.changes.items c.self.inside.changes.items (Effect c.args.moment by w n ar x)
-after c by w n ar x is =
-    let m = c.args.moment in
-    let e = Effect m by w n ar x in
-    let ends = marks m by w n ar x c.self.inside.registered.items is c.self.invariant.0.by_place in
-    let awake = subst (λ (t : Trimmed). (k : Key) → is_long (row_at t.rows k).quiet (t.settings.delay * 2 ^ 32) m ≡ false) (sym c.self.view_is) c.sweep.ensures.awake in
-    let cells2-is : c.settle.new.cells.items ≡ map (settled c.self.inside.registered.items m) c.self.inside.cells.items = c.settle.ensures.items ∙ ap (λ (l : List Registered). map (settled l m) c.self.inside.cells.items) c.deref.ensures.value in
-    subst (λ (l : List Cell). After c.self.inside.topic c.self.inside.cells.items l c.self.inside.registered.items c.self.inside.registered.items c.self.inside.changes.items c.self.inside.changes.items e) (sym cells2-is)
-    (settles c.self.inside.topic c.self.inside.cells.items c.self.inside.registered.items c.self.inside.registered.items c.self.inside.changes.items c.self.invariant.0 e ends awake)
-
--- some marker
-abbrev some : (c : goal.After-self-1) → Sample
-some c = record { key = []; act = Marker; stamp = 0; lifespan = None; set = NoSet; original = None; form = Nothing; payload = [] }
-
--- the cells after the registrations ended
-cells-are : (c : goal.After-self-1) → c.settle.new.cells.items ≡ map (settled c.self.inside.registered.items c.args.moment) c.self.inside.cells.items
-cells-are c = c.settle.ensures.items ∙ ap (λ (l : List Registered). map (settled l c.args.moment) c.self.inside.cells.items) c.deref.ensures.value
-
 pub invariant_of-self : goal.invariant_of-self
-invariant_of-self c = (
-  (after c 0 [] 0 0 (some c) refl).laid,
-  (let longest = c.self.inside.topic.delay * 2 ^ 32 in
-      let le = c.self.invariant.1 in
-      let by = after-ends longest c.args.moment c.self.inside.due c.self.inside.registered.items c.self.inside.cells.items c.self.inside.changes.items le in
-      let at = subst (λ (l : List Cell). due_with longest (Some c.args.moment) c.self.inside.due ≤ due_of longest l c.self.inside.changes.items) (sym (cells-are c)) by in
-      let is = c.due_with-self-inside.ensures in
-      omega arith),
-)
+invariant_of-self c = c.self.invariant
 
 pub returns-clause-stands : goal.returns-clause-stands
 returns-clause-stands c = λ p by w n ar s act st.
-    let e = Effect c.args.moment by w n ar s in
-    let old = begun (the_view c.self.inside) in
+    let m = c.args.moment in
+    let e = Effect m by w n ar s in
+    let new = the_view c.self.inside in
     let mid = subst (λ (t : Trimmed). Stands t p) (sym c.self.view_is) (c.sweep.ensures.stands p st) in
     let was = ap (λ (t : Trimmed). t.last) c.self.view_is in
     let now = c.sweep.ensures.last in
-    let is : c.args.moment ≡ c.self.inside.last = omega arith in
-    let step = same-step c.self.inside.last p old e (omega arith) mid in
-    let new = begun (the_view record { topic = c.self.inside.topic; last = c.self.inside.last; due = c.due_with-self-inside.result; cells = c.settle.new.cells; registered = c.self.inside.registered; changes = c.self.inside.changes }) in
-    subst (λ (z : ℕ). SameFrom z (p ▹ e) new) is (same-trans c.args.moment (p ▹ e) (old ▹ e) new step (after c by w n ar s act).same)
+    let step = same-step c.self.inside.last p (begun new) e (omega arith) mid in
+    let awake = subst (λ (t : Trimmed). (k : Key) → is_long (row_at t.rows k).quiet (t.settings.delay * 2 ^ 32) m ≡ false) (sym c.self.view_is) c.sweep.ensures.awake in
+    same-trans m (p ▹ e) (begun new ▹ e) (begun new) step (idles new.settings new.rows new.kept c.self.invariant.0.kept e (marks m by w n ar s act) awake)
