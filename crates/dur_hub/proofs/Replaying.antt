@@ -180,8 +180,8 @@ changes_told hub topic p now s ls places at told r here lt late =
     (at ∙ ap (λ l. get_or l topic p) places) in
     let within : p < length (start r.history).topics =
     subst (λ q. q < length (start r.history).topics) (sym is) (here.places.within topic lt) in
-    let early = here.at.good.early in
-    told r.history here.at.ledger.keeps within (omega arith) ∙ ap (λ q. snap (past q r.history) now) is
+    let early : moment r.history ≤ now = omega (arith, here.at.good.early, late) in
+    told r.history here.at.ledger.keeps within early ∙ ap (λ q. snap (past q r.history) now) is
 
 -- a reader that is served has a topic of the plan
 pub served_within : (plan : Plan) (line : ReaderLine) → not (is_served_in plan line) ≡ false

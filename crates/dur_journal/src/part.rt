@@ -126,7 +126,7 @@ fn part_of(alloc: Global, plan: &Plan) -> Result<Plan, OutOfMemory>
     })
 }
 
-/// The store with these entries after all others, where they follow those.
+/// The store with these entries, which follow, after all others.
 fn restored(store: Store, entries: List<Entry>) -> Result<Store, OutOfMemory>
     requires { AllByRecursion HasShortNumber entries }
     ensures { IfOk result (λ s. (h : History) → Keeps store h → AllFollow h entries
