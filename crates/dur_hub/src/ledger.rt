@@ -68,9 +68,8 @@ impl Ledger {
             → (h : History) (t d : ℕ) → LedgerAt self.old h t d → Follows h entry
             → refused h entry ≡ Some limit }
     {
-        let alloc = self.queue.alloc();
         if !stored {
-            return match self.store.admit(alloc, entry) {
+            return match self.store.admit(entry) {
                 Ok(()) => {
                     self.entries = self.entries.wrapping_add(1);
                     Ok(())
@@ -86,7 +85,7 @@ impl Ledger {
             Ok(()) => {}
             Err(_) => return Err(Refused::OutOfMemory),
         }
-        match self.store.admit(alloc, entry) {
+        match self.store.admit(entry) {
             Ok(()) => {
                 self.queue.push(copy);
                 self.entries = self.entries.wrapping_add(1);

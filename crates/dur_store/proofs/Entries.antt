@@ -157,3 +157,16 @@ keeps-same s new h i t old w x y keeps lent there line room outline writers inde
   count = ap length topics ∙ length-set s.topics.items t y ∙ keeps.count;
   topics = λ k z at. room-by h s.topics.items t k x y z keeps.topics there room (get-set s.topics.items t y k z (ap (λ (l : List Trimmed). slice_get l k) (sym topics) ∙ at));
 }
+
+-- A writer that reads the same was put.
+pub keeps-line : (s new : Store) (h : History) (i : ℕ) (old w : Writer) → Keeps s h → slice_get s.writers.items i ≡ Some old → line_of w ≡ line_of old → new.outline ≡ s.outline → new.writers.items ≡ set s.writers.items i w
+    → ((g : Guid) → found new.index g ≡ found s.index g) → new.sets ≡ s.sets → new.topics.items ≡ s.topics.items → Keeps new h
+keeps-line s new h i old w keeps lent line outline writers index sets topics = record {
+  history = keeps.history;
+  outline = outline ∙ keeps.outline;
+  writers = ap (λ (l : List Writer). map line_of l) writers ∙ same-put line_of s.writers.items i old w lent line ∙ keeps.writers;
+  index = λ g. subst (IsPlace (guids (start h).writers) g) (sym (index g)) (keeps.index g);
+  sets = subst (λ (l : Sets). StandFor l h) (sym sets) keeps.sets;
+  count = ap length topics ∙ keeps.count;
+  topics = subst (λ (l : List Trimmed). AreTopics l h) (sym topics) keeps.topics;
+}

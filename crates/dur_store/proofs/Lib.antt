@@ -3,6 +3,7 @@ mod Places
 mod Lists
 mod Writers
 mod Wholes
+mod HeldLists
 mod Takings
 mod Steps
 mod Entries

@@ -17,11 +17,11 @@ ghost use Rattle.dur_store.specs.Admitting.{Admitting};
 use crate::Refuse;
 use crate::begin::topics_of;
 use crate::index::{index_of, place_of};
-use crate::limits::{is_held_over, limit_with, max_held_of, samples_of};
+use crate::limits::{is_held_over, limit_with, max_held_of};
 use crate::room::make_room;
 use crate::taking::take_in;
 use crate::whole::parts_of;
-use crate::writer::{Writer, let_go, lines_of, pass_over, writers_of};
+use crate::writer::{Writer, let_go, lines_of, pass_over, would_pass, writers_of};
 use dur_base::{Entry, Guid, List, Number, OutOfMemory, Sample, SetMark, Ticks, later};
 use dur_instances::Instances;
 use dur_qos::Plan;
@@ -103,7 +103,7 @@ impl Store {
 
     /// Appends the entry, unless it would pass a limit of its topic at its moment: then it is refused for the first of
     /// them and handed back. A skip and a loss pass none. Refused or on want of memory, the store is as it was.
-    pub fn admit(&mut self, alloc: Global, entry: Entry) -> Result<(), (Refuse, Entry)>
+    pub fn admit(&mut self, entry: Entry) -> Result<(), (Refuse, Entry)>
         requires { HasShortNumber entry }
         ensures { Admitting self.old entry self.new result }
     {
@@ -113,13 +113,13 @@ impl Store {
                 writer,
                 number,
                 sample,
-            } => self.admit_sample(alloc, moment, writer, number, sample),
+            } => self.admit_sample(moment, writer, number, sample),
             Entry::Skip {
                 moment,
                 writer,
                 from,
                 to,
-            } => match self.skip(alloc, moment, writer, to) {
+            } => match self.skip(moment, writer, to) {
                 Ok(()) => Ok(()),
                 Err(_) => Err((
                     Refuse::OutOfMemory,
@@ -131,7 +131,7 @@ impl Store {
                     },
                 )),
             },
-            Entry::Lost { moment, writer } => match self.lose(alloc, moment, writer) {
+            Entry::Lost { moment, writer } => match self.lose(moment, writer) {
                 Ok(()) => Ok(()),
                 Err(_) => Err((Refuse::OutOfMemory, Entry::Lost { moment, writer })),
             },
@@ -141,7 +141,6 @@ impl Store {
     // The same of a sample, the next of its writer.
     fn admit_sample(
         &mut self,
-        alloc: Global,
         moment: Ticks,
         writer: Guid,
         number: Number,
@@ -150,47 +149,59 @@ impl Store {
         requires { number < 2 ^ 63 - 1 }
         ensures { Admitting self.old (Takes moment writer number sample) self.new result }
     {
-        match self.limit_of(alloc, moment, writer, number, &sample) {
-            Ok(None) => match self.take(alloc, moment, writer, number, sample) {
+        match self.limit_of(moment, writer, number, sample) {
+            Ok((None, sample)) => match self.take(moment, writer, number, sample) {
                 Ok(()) => Ok(()),
                 Err(sample) => Err((Refuse::OutOfMemory, took(moment, writer, number, sample))),
             },
-            Ok(Some(limit)) => Err((
+            Ok((Some(limit), sample)) => Err((
                 Refuse::for_limit(limit),
                 took(moment, writer, number, sample),
             )),
-            Err(_) => Err((Refuse::OutOfMemory, took(moment, writer, number, sample))),
+            Err(sample) => Err((Refuse::OutOfMemory, took(moment, writer, number, sample))),
         }
     }
 
-    // The first limit of its topic that the next sample of a writer would pass.
+    // The first limit of its topic that the next sample of a writer would pass. The sample is handed back.
     fn limit_of(
-        &self,
-        alloc: Global,
+        &mut self,
         moment: Ticks,
         writer: Guid,
         number: Number,
-        sample: &Sample,
-    ) -> Result<Option<Limit>, OutOfMemory>
-        ensures { IfOk result (λ l. (h : History) → Keeps self.now h
-            → Follows h (Takes moment writer number sample.now)
-            → l ≡ refused h (Takes moment writer number sample.now)) }
+        sample: Sample,
+    ) -> Result<(Option<Limit>, Sample), Sample>
+        ensures limit { IfOk result (λ a. (h : History) → Keeps self.old h
+            → Follows h (Takes moment writer number sample)
+            → a.0 ≡ refused h (Takes moment writer number sample)) }
+        ensures ok { IfOk result (λ a. a.1 ≡ sample) }
+        ensures err { IfErr result (λ back. back ≡ sample) }
+        ensures keeps { (h : History) → Keeps self.old h → Keeps self.new h }
     {
         let Some(place) = place_of(&self.index, writer) else {
-            return Err(OutOfMemory);
+            return Err(sample);
         };
-        let Some(line) = self.writers.get(place as usize) else {
-            return Err(OutOfMemory);
-        };
-        let Some(topic) = self.topics.get(line.topic as usize) else {
-            return Err(OutOfMemory);
-        };
-        let effect = self.sets.effect(place, number, mark_of(sample));
-        let samples = samples_of(alloc, &line.held, &effect, sample)?;
-        let max_held = max_held_of(&self.outline, line.topic as usize);
-        let is_over = is_held_over(max_held, &self.writers, line, &effect);
-        let taken = later(moment, topic.last());
-        Ok(limit_with(topic, samples.as_slice(), taken, is_over))
+        let at = place as usize;
+        if at >= self.writers.len() {
+            return Err(sample);
+        }
+        let topic = self.writers[at].topic as usize;
+        if topic >= self.topics.len() {
+            return Err(sample);
+        }
+        let effect = self.sets.effect(place, number, mark_of(&sample));
+        let max_held = max_held_of(&self.outline, topic);
+        let is_over = is_held_over(max_held, &self.writers, &self.writers[at], &effect);
+        let taken = later(moment, self.topics[topic].last());
+        match would_pass(
+            &mut self.writers[at],
+            &self.topics[topic],
+            taken,
+            &effect,
+            sample,
+        ) {
+            Ok((limit, sample)) => Ok((limit_with(limit, is_over), sample)),
+            Err(sample) => Err(sample),
+        }
     }
 
     /// Appends the entry, whatever the limits say. On want of memory the store is as it was.
@@ -200,14 +211,13 @@ impl Store {
             → Keeps self.new (h ▸ entry)) }
         ensures err { OnErr result ((h : History) → Keeps self.old h → Keeps self.new h) }
     {
-        let alloc = self.outline.topics.alloc();
         match entry {
             Entry::Took {
                 moment,
                 writer,
                 number,
                 sample,
-            } => match self.take(alloc, moment, writer, number, sample) {
+            } => match self.take(moment, writer, number, sample) {
                 Ok(()) => Ok(()),
                 Err(_) => Err(OutOfMemory),
             },
@@ -216,15 +226,14 @@ impl Store {
                 writer,
                 to,
                 ..
-            } => self.skip(alloc, moment, writer, to),
-            Entry::Lost { moment, writer } => self.lose(alloc, moment, writer),
+            } => self.skip(moment, writer, to),
+            Entry::Lost { moment, writer } => self.lose(moment, writer),
         }
     }
 
     // The next sample of a writer is taken in. On want of memory it is handed back, and the store is as it was.
     fn take(
         &mut self,
-        alloc: Global,
         moment: Ticks,
         writer: Guid,
         number: Number,
@@ -252,7 +261,6 @@ impl Store {
         let mark = mark_of(&sample);
         let taken = later(moment, self.topics[topic].last());
         take_in(
-            alloc,
             &mut self.writers[at],
             &mut self.topics[topic],
             place,
@@ -267,13 +275,7 @@ impl Store {
     }
 
     // Numbers of a writer are passed over, up to one: its open set is broken.
-    fn skip(
-        &mut self,
-        alloc: Global,
-        moment: Ticks,
-        writer: Guid,
-        to: Number,
-    ) -> Result<(), OutOfMemory>
+    fn skip(&mut self, moment: Ticks, writer: Guid, to: Number) -> Result<(), OutOfMemory>
         requires { to < 2 ^ 63 - 1 }
         ensures ok { OnOk result ((h : History) (from : ℕ) → Keeps self.old h
             → Follows h (Skips moment writer from to)
@@ -287,14 +289,14 @@ impl Store {
         if at >= self.writers.len() {
             return Err(OutOfMemory);
         }
-        pass_over(&mut self.writers[at], alloc, to);
+        pass_over(&mut self.writers[at], to);
         self.sets.skip(place);
         stamp(&mut self.outline, moment);
         Ok(())
     }
 
     // A writer is lost: its registrations end, and its open set is broken.
-    fn lose(&mut self, alloc: Global, moment: Ticks, writer: Guid) -> Result<(), OutOfMemory>
+    fn lose(&mut self, moment: Ticks, writer: Guid) -> Result<(), OutOfMemory>
         ensures ok { OnOk result ((h : History) → Keeps self.old h
             → Follows h (Loses moment writer)
             → Keeps self.new (h ▸ Loses moment writer)) }
@@ -313,7 +315,7 @@ impl Store {
         }
         let taken = later(moment, self.topics[topic].last());
         self.topics[topic].lost(taken, place);
-        let_go(&mut self.writers[at], alloc);
+        let_go(&mut self.writers[at]);
         self.sets.lost(place);
         stamp(&mut self.outline, moment);
         Ok(())
