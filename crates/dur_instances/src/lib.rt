@@ -6,6 +6,7 @@ mod changes;
 mod due;
 mod from_view;
 mod instances;
+mod keyed;
 mod lines;
 mod links;
 mod listing;
