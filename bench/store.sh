@@ -2,10 +2,9 @@
 # What the store costs for each entry as what it keeps grows: `durability list` over captures of so many samples of 64
 # octets, each in a datagram of its own, of 1, 16 and 1,000 instances and of one for each sample, where the topic keeps the
 # newest change of each instance, ten of them, or all, without and with a lifespan. Each line has the microseconds for
-# each datagram, and the ratio to `durability show` of the same capture, which reads it alike and keeps nothing. What a run
-# over the plan alone takes is not counted. The last lines have the most memory of a run that keeps all, less that of a run
-# over the plan alone, for each change beside its payload: all are expired at the moment of the listing, which is then
-# empty.
+# each datagram, less what a run over the plan alone takes, and the ratio to `durability show` of the same capture, which
+# reads it alike and keeps nothing. The last lines have the most memory of a run that keeps all, when it has read its input,
+# less that of a run over the plan alone, for each change beside its payload.
 #
 # Usage: [COUNTS="1000 10000 100000 1000000"] bench/store.sh [PROGRAM]
 set -eu
@@ -14,7 +13,7 @@ program=${1:-$(tests/program.sh)}
 folder=$(mktemp -d)
 trap 'rm -rf "$folder"' EXIT
 COUNTS=${COUNTS:-1000 10000 100000} python3 - "$program" "$folder" <<'PYTHON'
-import os, resource, struct, subprocess, sys, time
+import os, shutil, struct, subprocess, sys, time
 program, folder = sys.argv[1:]
 counts = [int(word) for word in os.environ["COUNTS"].split()]
 WRITER, SIZE = b"\xa1" * 12 + bytes.fromhex("00000102"), 64
@@ -42,19 +41,26 @@ def make(name, history, count, instances, lifespan):
             out.write(record(number, instances, lifespan))
     return path
 
-def run(path, *words):
-    """The time of a run in seconds, and its greatest memory in octets."""
-    with open(path, "rb") as given, open(os.devnull, "wb") as taken:
+def run(path, word):
+    """The time of a run in seconds."""
+    with open(path, "rb") as given:
         start = time.perf_counter()
-        process = subprocess.Popen([program, *words], stdin=given, stdout=taken)
-        _, status, usage = os.wait4(process.pid, 0)
-        if status:
-            sys.exit(f"{program} {' '.join(words)} ended with the status {status >> 8}")
-        return time.perf_counter() - start, usage.ru_maxrss * 1024
+        subprocess.run([program, word], stdin=given, stdout=subprocess.DEVNULL, check=True)
+        return time.perf_counter() - start
 
-def least(path, *words):
-    first = run(path, *words)[0]
-    return min([first] + [run(path, *words)[0] for _ in range(4 if first < 0.2 else 1 if first < 3 else 0)])
+def least(path, word):
+    first = run(path, word)
+    return min([first] + [run(path, word) for _ in range(4 if first < 0.2 else 1 if first < 3 else 0)])
+
+def memory(path):
+    """The most memory that a run has, in octets, when it has read its input and waits for more."""
+    with subprocess.Popen([program, "list", "--at", str(1 << 63)], stdin=subprocess.PIPE, stdout=subprocess.DEVNULL) as process:
+        with open(path, "rb") as given:
+            shutil.copyfileobj(given, process.stdin, 1 << 20)
+        process.stdin.flush()
+        time.sleep(0.5)
+        with open(f"/proc/{process.pid}/status", encoding="ascii") as status:
+            return next(int(line.split()[1]) << 10 for line in status if line.startswith("VmHWM"))
 
 empty = make("empty", "1", 0, 1, False)
 start = least(empty, "list")
@@ -67,10 +73,10 @@ for lifespan in (False, True):
                 listed, shown = least(path, "list"), least(path, "show")
                 line.append(f"{count}: {(listed - start) / count * 1e6:.2f} us ({listed / shown:.1f} show)")
             print(f"{instances} instances, history {history}{', lifespan' if lifespan else ''}; " + ", ".join(line), flush=True)
-least_memory = run(empty, "list")[1]
+nothing = memory(empty)
 for instances in ("1", "1000", "each"):
     for count in counts:
         path = make("capture", "all", count, count if instances == "each" else int(instances), True)
-        most = run(path, "list", "--at", str(1 << 63))[1]
-        print(f"{instances} instances, {count} kept: {(most - least_memory) / count - SIZE:.0f} octets a change beside its payload", flush=True)
+        beside = (memory(path) - nothing) / count - SIZE
+        print(f"{instances} instances, {count} kept: {beside:.0f} octets a change beside its payload", flush=True)
 PYTHON
