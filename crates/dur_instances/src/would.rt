@@ -283,7 +283,7 @@ fn any_new_over(
     false
 }
 
-// Whether more instances exist than the limit, when the samples took effect.
+// Whether more instances exist than the limit, when the samples took effect. None are counted where no count could be over.
 fn are_instances_over(
     limit: Option<u32>,
     cells: &Sorted,
@@ -293,19 +293,19 @@ fn are_instances_over(
 ) -> bool
     ensures { result ≡ is_over limit (length (cells_there cells.now longest now) + new_keys (is_there_in cells.now longest now) samples.now) }
 {
-    match limit {
-        None => false,
-        Some(_) => {
-            let there = count_there(cells, longest, now) as u128;
-            is_over(
-                limit,
-                there + count_new(cells, longest, now, samples) as u128,
-            )
-        }
+    let most = cells.as_slice().len() as u128 + samples.len() as u128;
+    if !is_over(limit, most) {
+        return false;
     }
+    let there = count_there(cells, longest, now) as u128;
+    is_over(
+        limit,
+        there + count_new(cells, longest, now, samples) as u128,
+    )
 }
 
-// Whether an instance that exists when the samples took effect has more changes left than the limit.
+// Whether an instance that exists when the samples took effect has more changes left than the limit. None are counted where
+// no count could be over.
 fn is_any_over(
     limit: Option<u32>,
     cells: &Sorted,
@@ -317,14 +317,14 @@ fn is_any_over(
 ) -> bool
     ensures { result ≡ any_there cells.now longest now samples.now (λ k. is_over limit (count_asked (Some k) (left_after cells.now (kept_in places.now) depth longest now samples.now))) }
 {
-    match limit {
-        None => false,
-        Some(_) => any_kept_over(limit, cells, places, depth, longest, now, samples)
-            || any_new_over(limit, cells, places, depth, longest, now, samples),
+    if !is_over(limit, places.len() as u128 + samples.len() as u128) {
+        return false;
     }
+    any_kept_over(limit, cells, places, depth, longest, now, samples)
+        || any_new_over(limit, cells, places, depth, longest, now, samples)
 }
 
-// Whether more changes are left than the limit, when the samples took effect.
+// Whether more changes are left than the limit, when the samples took effect. None are counted where no count could be over.
 fn are_changes_over(
     limit: Option<u32>,
     cells: &Sorted,
@@ -336,13 +336,13 @@ fn are_changes_over(
 ) -> bool
     ensures { result ≡ is_over limit (count_asked None (left_after cells.now (kept_in places.now) depth longest now samples.now)) }
 {
-    match limit {
-        None => false,
-        Some(_) => is_over(
-            limit,
-            count_left(cells, places, depth, longest, now, samples, &None),
-        ),
+    if !is_over(limit, places.len() as u128 + samples.len() as u128) {
+        return false;
     }
+    is_over(
+        limit,
+        count_left(cells, places, depth, longest, now, samples, &None),
+    )
 }
 
 /// The first limit that is passed when the samples took effect at the moment.
