@@ -77,8 +77,8 @@ pub fn find<'a>(cells: &Sorted<'a>, key: Key) -> Option<&'a Cell>
     }
 }
 
-// The place at which the key's instance stands or belongs.
-fn place_of(cells: &[Cell], key: Key) -> usize
+/// The place at which the key's instance stands or belongs.
+pub fn place_of(cells: &[Cell], key: Key) -> usize
     requires { Ascending (keys_of cells.now) }
     ensures bound { result ≤ length cells.now }
     ensures before { (k : ℕ) (x : Item) → k < result → slice_get cells.now k ≡ Some x → key_cmp key x.key ≡ Greater }
@@ -97,7 +97,8 @@ fn place_of(cells: &[Cell], key: Key) -> usize
     low
 }
 
-fn is_at(cells: &[Cell], at: usize, key: Key) -> bool
+/// Whether the key's instance stands there.
+pub fn is_at(cells: &[Cell], at: usize, key: Key) -> bool
     ensures { result ≡ unwrap_or (option_map (λ x. is_key x.key key) (slice_get cells.now at)) false }
 {
     match cells.get(at) {

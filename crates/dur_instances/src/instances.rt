@@ -260,8 +260,8 @@ impl Instances {
         ensures { IfOk result (λ s. (p : Past) → Stands self.now p → s.changes ≡ snap p moment) }
     {
         let longest = self.topic.delay as u64 * 4_294_967_296;
-        let kept = self.changes.list(alloc)?;
-        let changes = entitled_over(alloc, &kept, &Sorted::of(&self.cells), longest, moment)?;
+        let cells = Sorted::of(&self.cells);
+        let changes = entitled_over(alloc, self.changes.places(), &cells, longest, moment)?;
         Ok(Snapshot { changes })
     }
 
@@ -277,14 +277,13 @@ impl Instances {
     {
         let longest = self.topic.delay as u64 * 4_294_967_296;
         let depth = self.topic.depth;
-        let kept = self.changes.list(alloc)?;
         let lines = lines_over(
             alloc,
             at,
             depth,
             &Sorted::of(&self.cells),
             &self.registered,
-            &kept,
+            self.changes.places(),
             longest,
             moment,
         )?;
@@ -298,12 +297,11 @@ impl Instances {
     {
         let longest = self.topic.delay as u64 * 4_294_967_296;
         let depth = self.topic.depth;
-        let changes = self.changes.list(alloc)?;
         let kept = kept_over(
             alloc,
             depth,
             &Sorted::of(&self.cells),
-            &changes,
+            self.changes.places(),
             longest,
             moment,
         )?;

@@ -9,7 +9,7 @@ ghost use Rattle.dur_instances.specs.Places.{is_past, kept_in, found, first_in, 
 
 use crate::cells::Sorted;
 use crate::changes::Change;
-use crate::links::{Place, count_kept, empty_past, side_by_side, sweep};
+use crate::links::{Place, count_kept, empty_past, sweep};
 use crate::within::push_within;
 use dur_base::{Key, OutOfMemory, Ticks};
 use std::alloc::Global;
@@ -139,13 +139,6 @@ impl Changes {
         ensures { kept_in result.now ≡ self.now.items }
     {
         &self.places
-    }
-
-    /// The kept changes, side by side.
-    pub fn list(&self, alloc: Global) -> Result<Vec<Change>, OutOfMemory>
-        ensures { IfOk result (λ l. l.items ≡ self.now.items) }
-    {
-        side_by_side(alloc, &self.places)
     }
 
     // More places at the end.
