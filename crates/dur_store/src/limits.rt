@@ -53,7 +53,8 @@ pub fn samples_of(
     sample: &Sample,
 ) -> Result<List<Sample>, OutOfMemory>
     ensures { IfOk result (λ l. IsWhole effect.entry.now.before members.now
-        → l ≡ map (λ x. x.sample) (closed effect.entry.now.before members.now) ++ if_now effect.entry.now.now sample.now) }
+        → l ≡ map (λ x. x.sample) (closed effect.entry.now.before members.now)
+        ++ if_now effect.entry.now.now sample.now) }
 {
     let mut samples = closed_samples(alloc, members, &effect.before)?;
     match &effect.now {
@@ -102,8 +103,8 @@ fn left_of(before: &Before, held: usize) -> usize
 
 // How many members a writer holds after its next sample.
 fn held_after(writer: &Writer, effect: &Effect) -> u128
-    ensures held { (x : Member) → result
-        ≡ length (left effect.entry.now.before writer.now.held.items ++ if_held effect.entry.now.now x) }
+    ensures held { (x : Member) → result ≡ length
+        (left effect.entry.now.before writer.now.held.items ++ if_held effect.entry.now.now x) }
     ensures bound { result ≤ length writer.now.held.items + 1 }
 {
     let left = left_of(&effect.before, writer.held.len()) as u128;
