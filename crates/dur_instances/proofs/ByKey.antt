@@ -1,9 +1,10 @@
 -- Instances in any order, each with a key of its own, and the list of them by key.
-use Rattle.std.proofs.Common.{◌≡◌, ℕ, Bool, true, false, cond, Option, Some, None, List, [], ◌∷◌, map, refl, sym, ap, ◌∙◌, subst}
-use Rattle.std.specs.Prelude.{filter, option_map}
+use Rattle.std.proofs.Common.{◌≡◌, ℕ, zero, suc, ◌+◌, ◌++◌, drop, take, length, arith, append_assoc, Bool, true, false, cond, Option, Some, None, List, [], ◌∷◌, map, refl, sym, ap, ◌∙◌, subst}
+use Rattle.std.specs.Prelude.{filter, option_map, min, slice_get}
 use Rattle.std.specs.Str.{bytes_eq}
 use Rattle.std.specs.List.{AllByRecursion}
 use Rattle.std.specs.Map.{lookup}
+use Rattle.std.specs.Map.Calls.{RetainsPairs}
 use Rattle.std.specs.Ordering.{match_ordering}
 use Rattle.std.specs.declared.cmp.Ordering.{Ordering}
 use Rattle.std.specs.declared.cmp.Ordering.TheVariants.{Less, Equal, Greater}
@@ -18,8 +19,9 @@ use Rattle.dur_instances.specs.declared.cells.Cell.{Cell}
 use Rattle.dur_instances.specs.declared.keyed.State.{State}
 use Rattle.dur_instances.specs.Layout.{cell_in, keys_of, with_cell}
 use Rattle.dur_instances.specs.Keyed.{cell_by, cells_by, Distinct}
-use Rattle.dur_instances.proofs.KeyLists.{greater-back, less-trans, EachKey-weaken}
-use Rattle.dur_instances.proofs.CellLists.{absent-cell, cell_in-with, cell_in-filter, kept_if, order-filter, put-order}
+use Rattle.dur_instances.specs.Due.{purged_from, due_cells}
+use Rattle.dur_instances.proofs.KeyLists.{less-back, greater-back, less-trans, EachKey-weaken}
+use Rattle.dur_instances.proofs.CellLists.{absent-cell, cell_in-with, cell_in-filter, kept_if, order-filter, put-order, in-order, cell_in-key}
 
 -- Two lists by key that have the same instance of each key are one list.
 own-cell : (x : Cell) (xs : List Cell) → cell_in (x ∷ xs) x.key ≡ Some x
@@ -162,3 +164,164 @@ filter-by test (e ∷ es) un = split (test (cell_by e)) (filter-by test es (rest
         → cells_by (cond b (e ∷ filter (λ e. test (cell_by e)) es) (filter (λ e. test (cell_by e)) es)) ≡ cond b (with_cell (cell_by e) (filter test (cells_by es))) (filter test (cells_by es))
     split true rest = ap (with_cell (cell_by e)) rest
     split false rest = rest
+
+-- Each changed.
+map-with : (g : Cell → Cell) → ((c : Cell) → (g c).key ≡ c.key) → (c : Cell) (xs : List Cell) → map g (with_cell c xs) ≡ with_cell (g c) (map g xs)
+map-with g keeps c [] = refl
+map-with g keeps c (x ∷ xs) =
+    at (key_cmp c.key x.key) (map-with g keeps c xs)
+    ∙ ap (λ o. match_ordering o (g c ∷ g x ∷ map g xs) (g c ∷ map g xs) (g x ∷ with_cell (g c) (map g xs))) (sym (ap (λ (k : Key). key_cmp k (g x).key) (keeps c) ∙ ap (λ (k : Key). key_cmp c.key k) (keeps x)))
+  where
+    at : (o : Ordering) → map g (with_cell c xs) ≡ with_cell (g c) (map g xs)
+        → map g (match_ordering o (c ∷ x ∷ xs) (c ∷ xs) (x ∷ with_cell c xs)) ≡ match_ordering o (g c ∷ g x ∷ map g xs) (g c ∷ map g xs) (g x ∷ with_cell (g c) (map g xs))
+    at Less rest = refl
+    at Equal rest = refl
+    at Greater rest = ap (λ l. g x ∷ l) rest
+
+pub map-by : (g : Cell → Cell) → ((c : Cell) → (g c).key ≡ c.key) → (change : Key × State → State) → ((e : Key × State) → cell_by (e.0, change e) ≡ g (cell_by e))
+    → (es : List (Key × State)) → cells_by (map (λ e. (e.0, change e)) es) ≡ map g (cells_by es)
+map-by g keeps change same [] = refl
+map-by g keeps change same (e ∷ es) =
+    ap (λ c. with_cell c (cells_by (map (λ e. (e.0, change e)) es))) (same e) ∙ ap (λ l. with_cell (g (cell_by e)) l) (map-by g keeps change same es) ∙ sym (map-with g keeps (cell_by e) (cells_by es))
+
+-- what a map's `retain` leaves where the closure keeps each entry, with another state
+module _ {F : Type 0} (T : F → Key → State → Bool → State → F → Type 0) (change : Key × State → State) (f : F)
+    (says : (k : Key) (v : State) (b : Bool) (w : State) (g : F) → T f k v b w g → (b ≡ true) × (w ≡ change (k, v)) × (g ≡ f)) where
+  pub map-retained : (es kept : List (Key × State)) → RetainsPairs T f es kept → kept ≡ map (λ e. (e.0, change e)) es
+  map-retained [] kept h = h
+  map-retained (e ∷ es) kept h =
+      let s = says e.0 e.1 h.0 h.1 h.2 h.4 in
+      let rest = map-retained es h.3 (subst (λ g. RetainsPairs T g es h.3) s.2 h.5) in
+      h.6 ∙ (λ j. cond (s.0 j) ((e.0, s.1 j) ∷ rest j) (rest j))
+
+-- One entry after the other.
+pub next-entry : {X : Type 0} (es : List X) (i : ℕ) (e : X) → slice_get es i ≡ Some e → drop i es ≡ e ∷ drop (i + 1) es
+next-entry [] i e at = absurd (cc)
+next-entry (x ∷ es) zero e at = cc
+next-entry (x ∷ es) (suc i) e at = next-entry es i e at ∙ ap (λ n. e ∷ drop n (x ∷ es)) (let n : suc (i + 1) ≡ suc i + 1 = omega arith in n)
+
+pub due-by : (longest : ℕ) (es : List (Key × State)) → Distinct es → due_cells longest (cells_by es) ≡ due_cells longest (map cell_by es)
+due-by longest es un = any-order (due_cells longest) along swap es un
+  where
+    along : (c : Cell) (xs ys : List Cell) → due_cells longest xs ≡ due_cells longest ys → due_cells longest (c ∷ xs) ≡ due_cells longest (c ∷ ys)
+    along c xs ys same = omega arith
+
+    swap : (a b : Cell) (xs : List Cell) → due_cells longest (a ∷ b ∷ xs) ≡ due_cells longest (b ∷ a ∷ xs)
+    swap a b xs = omega arith
+
+pub count-by : (test : Cell → Bool) (es : List (Key × State)) → Distinct es → length (filter test (cells_by es)) ≡ length (filter test (map cell_by es))
+count-by test es un = any-order (λ l. length (filter test l)) along swap es un
+  where
+    along-at : (b : Bool) (c : Cell) (xs ys : List Cell) → length (filter test xs) ≡ length (filter test ys) → length (cond b (c ∷ filter test xs) (filter test xs)) ≡ length (cond b (c ∷ filter test ys) (filter test ys))
+    along-at true c xs ys same = ap (λ n. suc n) same
+    along-at false c xs ys same = same
+
+    along : (c : Cell) (xs ys : List Cell) → length (filter test xs) ≡ length (filter test ys) → length (filter test (c ∷ xs)) ≡ length (filter test (c ∷ ys))
+    along c xs ys same = along-at (test c) c xs ys same
+
+    swap-at : (p q : Bool) (a b : Cell) (xs : List Cell) → length (cond p (a ∷ cond q (b ∷ xs) xs) (cond q (b ∷ xs) xs)) ≡ length (cond q (b ∷ cond p (a ∷ xs) xs) (cond p (a ∷ xs) xs))
+    swap-at true true a b xs = refl
+    swap-at true false a b xs = refl
+    swap-at false true a b xs = refl
+    swap-at false false a b xs = refl
+
+    swap : (a b : Cell) (xs : List Cell) → length (filter test (a ∷ b ∷ xs)) ≡ length (filter test (b ∷ a ∷ xs))
+    swap a b xs = swap-at (test a) (test b) a b (filter test xs)
+
+pub count-values : (test : State → Bool) (es : List (Key × State)) → length (filter (λ c. test (record { disposed = c.disposed; quiet = c.quiet; count = c.count })) (map cell_by es)) ≡ length (filter test (map (λ e. e.1) es))
+count-values test [] = refl
+count-values test (e ∷ es) = at (test e.1) (count-values test es)
+  where
+    at : (b : Bool) → length (filter (λ c. test (record { disposed = c.disposed; quiet = c.quiet; count = c.count })) (map cell_by es)) ≡ length (filter test (map (λ e. e.1) es))
+        → length (cond b (cell_by e ∷ filter (λ c. test (record { disposed = c.disposed; quiet = c.quiet; count = c.count })) (map cell_by es)) (filter (λ c. test (record { disposed = c.disposed; quiet = c.quiet; count = c.count })) (map cell_by es)))
+        ≡ length (cond b (e.1 ∷ filter test (map (λ e. e.1) es)) (filter test (map (λ e. e.1) es)))
+    at true rest = ap (λ n. suc n) rest
+    at false rest = rest
+
+pub due-step : (longest : ℕ) (es : List (Key × State)) (i due next : ℕ) (e : Key × State) → slice_get es i ≡ Some e → due_cells longest (map cell_by es) ≡ min due (due_cells longest (map cell_by (drop i es)))
+    → next ≡ min due (purged_from longest e.1.quiet) → due_cells longest (map cell_by es) ≡ min next (due_cells longest (map cell_by (drop (i + 1) es)))
+due-step longest es i due next e at was is =
+    let here = ap (λ l. due_cells longest (map cell_by l)) (next-entry es i e at) in
+    let split : due_cells longest (map cell_by (e ∷ drop (i + 1) es)) ≡ min (purged_from longest e.1.quiet) (due_cells longest (map cell_by (drop (i + 1) es))) = refl in
+    omega arith
+
+pub cells-step : (es : List (Key × State)) (i : ℕ) (e : Key × State) (cells next : List Cell) (c : Cell) → slice_get es i ≡ Some e → c ≡ cell_by e → map cell_by es ≡ cells ++ map cell_by (drop i es) → next ≡ cells ++ c ∷ []
+    → map cell_by es ≡ next ++ map cell_by (drop (i + 1) es)
+cells-step es i e cells next c at own was is =
+    was ∙ ap (λ l. cells ++ map cell_by l) (next-entry es i e at) ∙ sym (append_assoc cells (cell_by e ∷ []) (map cell_by (drop (i + 1) es)))
+    ∙ ap (λ x. (cells ++ x ∷ []) ++ map cell_by (drop (i + 1) es)) (sym own) ∙ ap (λ l. l ++ map cell_by (drop (i + 1) es)) (sym is)
+
+-- The first instances of a list by key, and the next one.
+pub take-with : (xs : List Cell) (i : ℕ) (x : Cell) → Ascending (keys_of xs) → slice_get xs i ≡ Some x → with_cell x (take i xs) ≡ take (i + 1) xs
+take-with [] i x up here = absurd (cc)
+take-with (y ∷ xs) zero x up here = cc
+take-with (y ∷ xs) (suc i) x up here =
+    let below = in-order (y ∷ xs) 0 (suc i) y x up (omega arith) refl here in
+    let above = less-back y.key x.key below in
+    let rest = take-with xs i x up.1 here in
+    let same : with_cell x (y ∷ take i xs) ≡ y ∷ take (i + 1) xs = cc in
+    same ∙ ap (λ n. take n (y ∷ xs)) (let n : suc (i + 1) ≡ suc i + 1 = omega arith in n)
+
+-- One changed.
+abbrev pub at_key : Key → (Cell → Cell) → Cell → Cell
+at_key k g c = cond (is_key c.key k) (g c) c
+
+untouched : (k : Key) (g : Cell → Cell) (xs : List Cell) → cell_in xs k ≡ None → map (at_key k g) xs ≡ xs
+untouched k g [] none = refl
+untouched k g (x ∷ xs) none = at (is_key x.key k) none (λ n. untouched k g xs n)
+  where
+    at : (b : Bool) → cond b (Some x) (cell_in xs k) ≡ None → (cell_in xs k ≡ None → map (at_key k g) xs ≡ xs) → cond b (g x) x ∷ map (at_key k g) xs ≡ x ∷ xs
+    at true n rest = absurd (cc)
+    at false n rest = ap (λ l. x ∷ l) (rest n)
+
+cell_in-map : (h : Cell → Cell) → ((c : Cell) → (h c).key ≡ c.key) → (xs : List Cell) (q : Key) → cell_in (map h xs) q ≡ option_map h (cell_in xs q)
+cell_in-map h keeps [] q = refl
+cell_in-map h keeps (x ∷ xs) q = ap (λ (k : Key). cond (is_key k q) (Some (h x)) (cell_in (map h xs) q)) (keeps x) ∙ at (is_key x.key q) (cell_in-map h keeps xs q)
+  where
+    at : (b : Bool) → cell_in (map h xs) q ≡ option_map h (cell_in xs q) → cond b (Some (h x)) (cell_in (map h xs) q) ≡ option_map h (cond b (Some x) (cell_in xs q))
+    at true rest = refl
+    at false rest = rest
+
+keys-map : (h : Cell → Cell) → ((c : Cell) → (h c).key ≡ c.key) → (xs : List Cell) → keys_of (map h xs) ≡ keys_of xs
+keys-map h keeps [] = refl
+keys-map h keeps (x ∷ xs) = ap (λ (k : Key). k ∷ keys_of (map h xs)) (keeps x) ∙ ap (λ l. x.key ∷ l) (keys-map h keeps xs)
+
+at_key-keeps : (k : Key) (g : Cell → Cell) → ((c : Cell) → (g c).key ≡ c.key) → (c : Cell) → (at_key k g c).key ≡ c.key
+at_key-keeps k g keeps c = at (is_key c.key k)
+  where
+    at : (b : Bool) → (cond b (g c) c).key ≡ c.key
+    at true = keeps c
+    at false = refl
+
+put-changed : (k : Key) (g : Cell → Cell) → ((c : Cell) → (g c).key ≡ c.key) → (xs : List Cell) (c : Cell) → Ascending (keys_of xs) → cell_in xs k ≡ Some c → with_cell (g c) xs ≡ map (at_key k g) xs
+put-changed k g keeps xs c up found =
+    one-cells (with_cell (g c) xs) (map (at_key k g) xs) (order-with (g c) xs up) (subst Ascending (sym (keys-map (at_key k g) (at_key-keeps k g keeps) xs)) up) same
+  where
+    own : (g c).key ≡ k
+    own = keeps c ∙ cell_in-key xs k c found
+
+    here : is_key c.key k ≡ true
+    here = subst (λ (z : Key). is_key z k ≡ true) (sym (cell_in-key xs k c found)) (is_key-refl k)
+
+    other : (q : Key) (o : Option Cell) → cell_in xs q ≡ o → is_key k q ≡ false → o ≡ option_map (at_key k g) o
+    other q None is no_key = refl
+    other q (Some x) is no_key =
+        let not_own : is_key x.key k ≡ false = turned x.key k ∙ ap (λ (z : Key). is_key k z) (cell_in-key xs q x is) ∙ no_key in
+        ap (λ b. Some (cond b (g x) x)) (sym not_own)
+
+    split : (q : Key) (b : Bool) → is_key k q ≡ b → cond b (Some (g c)) (cell_in xs q) ≡ option_map (at_key k g) (cell_in xs q)
+    split q true is =
+        ap (λ b. Some (cond b (g c) c)) (sym here) ∙ ap (option_map (at_key k g)) (sym found ∙ ap (λ (z : Key). cell_in xs z) (is_key-true k q is))
+    split q false is = other q (cell_in xs q) refl is
+
+    same : (q : Key) → cell_in (with_cell (g c) xs) q ≡ cell_in (map (at_key k g) xs) q
+    same q =
+        cell_in-with (g c) xs q ∙ ap (λ (z : Key). cond (is_key z q) (Some (g c)) (cell_in xs q)) own ∙ split q (is_key k q) refl ∙ sym (cell_in-map (at_key k g) (at_key-keeps k g keeps) xs q)
+
+pub changed-by : (k : Key) (g : Cell → Cell) → ((c : Cell) → (g c).key ≡ c.key) → (es news : List (Key × State)) (s w : State) → had k es ≡ Some s → cell_by (k, w) ≡ g (cell_by (k, s))
+    → ((q : Key) → had q news ≡ cond (is_key k q) (Some w) (had q es)) → cells_by news ≡ map (at_key k g) (cells_by es)
+changed-by k g keeps es news s w found is puts =
+    put-by k w es news puts ∙ ap (λ x. with_cell x (cells_by es)) is ∙ put-changed k g keeps (cells_by es) (cell_by (k, s)) (order-by es) (found-by k es ∙ ap (cell_had k) found)
+
+pub absent-by : (k : Key) (g : Cell → Cell) (es : List (Key × State)) → had k es ≡ None → cells_by es ≡ map (at_key k g) (cells_by es)
+absent-by k g es none = sym (untouched k g (cells_by es) (found-by k es ∙ ap (cell_had k) none))

@@ -4,6 +4,7 @@ use Rattle.std.specs.Str.{bytes_eq}
 use Rattle.std.specs.List.{IsDistinct}
 use Rattle.std.specs.Coded.{Coded, code_by, coded×, coded_ℕ, coded_list}
 use Rattle.dur_view.specs.Identities.{Key}
+use Rattle.dur_view.specs.Words.{is_key}
 use Rattle.dur_instances.specs.declared.cells.Cell.{Cell}
 use Rattle.dur_instances.specs.declared.keyed.State.{State}
 use Rattle.dur_instances.specs.contracts.cells.Cell as cell_row
@@ -31,5 +32,12 @@ abbrev pub Distinct : List (Key × State) → Type 0
 Distinct es = IsDistinct bytes_eq (map (λ e. e.0) es)
 
 -- when an instance is quiet from, after registrations ended, where nobody may be registered with it
-abbrev pub quiet_by : Bool → ℕ → Cell → Option ℕ
-quiet_by nobody m c = if c.disposed && nobody then (if is_some c.quiet then c.quiet else Some m) else None
+abbrev pub quiet_by : Bool → ℕ → State → Option ℕ
+quiet_by nobody m s = if s.disposed && nobody then (if is_some s.quiet then s.quiet else Some m) else None
+
+abbrev pub settled_by : Bool → ℕ → State → State
+settled_by nobody m s = record s { quiet = quiet_by nobody m s }
+
+-- the instance, settled where it is the key's
+abbrev pub settled_at : Key → Bool → ℕ → Cell → Cell
+settled_at k nobody m c = if is_key c.key k then cell_by (c.key, settled_by nobody m (record { disposed = c.disposed; quiet = c.quiet; count = c.count })) else c

@@ -16,14 +16,15 @@ pub fn is_before(a: Ticks, b: Ticks) -> bool
     a.0 < b.0
 }
 
-fn earlier(a: u64, b: u64) -> u64
+/// The earlier of two moments.
+pub fn earlier(a: u64, b: u64) -> u64
     ensures { result ≡ min a b }
 {
     if a <= b { a } else { b }
 }
 
-// The first moment at which the instance is purged, or the last moment.
-fn purged_from(longest: u64, quiet: Option<Ticks>) -> u64
+/// The first moment at which the instance is purged, or the last moment.
+pub fn purged_from(longest: u64, quiet: Option<Ticks>) -> u64
     ensures { result ≡ purged_from longest quiet }
 {
     match quiet {
