@@ -94,10 +94,7 @@ fn count_awake(map: &IndexMap<[u8; 16], State>, longest: u64, now: Ticks) -> usi
 }
 
 // The instances, in the order of the entries.
-fn cells_of(
-    alloc: Global,
-    entries: &Slice<'_, [u8; 16], State>,
-) -> Result<Vec<Cell>, OutOfMemory>
+fn cells_of(alloc: Global, entries: &Slice<'_, [u8; 16], State>) -> Result<Vec<Cell>, OutOfMemory>
     ensures { IfOk result (λ l. l.items ≡ map cell_by entries.now) }
 {
     let mut cells = Vec::new(alloc);
