@@ -1,8 +1,8 @@
 -- Instances in any order, each with a key of its own, and the list of them by key.
-use Rattle.std.proofs.Common.{◌≡◌, ℕ, zero, suc, ◌+◌, ◌++◌, drop, take, length, arith, append_assoc, Bool, true, false, cond, Option, Some, None, List, [], ◌∷◌, map, refl, sym, ap, ◌∙◌, subst}
+use Rattle.std.proofs.Common.{◌≡◌, ℕ, zero, suc, ◌+◌, ◌++◌, drop, take, length, arith, append_assoc, Bool, true, false, cond, ◌||◌, Option, Some, None, List, [], ◌∷◌, map, refl, sym, ap, ◌∙◌, subst}
 use Rattle.std.specs.Prelude.{filter, option_map, min, slice_get}
 use Rattle.std.specs.Str.{bytes_eq}
-use Rattle.std.specs.List.{AllByRecursion}
+use Rattle.std.specs.List.{AllByRecursion, list_any}
 use Rattle.std.specs.Map.{lookup}
 use Rattle.std.specs.Map.Calls.{RetainsPairs}
 use Rattle.std.specs.Ordering.{match_ordering}
@@ -227,6 +227,17 @@ count-by test es un = any-order (λ l. length (filter test l)) along swap es un
 
     swap : (a b : Cell) (xs : List Cell) → length (filter test (a ∷ b ∷ xs)) ≡ length (filter test (b ∷ a ∷ xs))
     swap a b xs = swap-at (test a) (test b) a b (filter test xs)
+
+pub any-by : (test : Cell → Bool) (es : List (Key × State)) → Distinct es → list_any test (cells_by es) ≡ list_any test (map cell_by es)
+any-by test es un = any-order (list_any test) (λ c xs ys same. ap (λ b. test c || b) same) swap es un
+  where
+    turn : (p q r : Bool) → (p || (q || r)) ≡ (q || (p || r))
+    turn true true r = refl
+    turn true false r = refl
+    turn false q r = refl
+
+    swap : (a b : Cell) (xs : List Cell) → list_any test (a ∷ b ∷ xs) ≡ list_any test (b ∷ a ∷ xs)
+    swap a b xs = turn (test a) (test b) (list_any test xs)
 
 pub count-values : (test : State → Bool) (es : List (Key × State)) → length (filter (λ c. test (record { disposed = c.disposed; quiet = c.quiet; count = c.count })) (map cell_by es)) ≡ length (filter test (map (λ e. e.1) es))
 count-values test [] = refl

@@ -2,10 +2,10 @@
 
 ghost use Rattle.std.specs.Prelude.{◌≡◌, min, nat_lt};
 ghost use Rattle.dur_instances.specs.Places.{kept_in};
-ghost use Rattle.dur_instances.specs.Due.{due_at, purged_from, expired_from, due_cells, due_changes, due_of, due_with, due_by};
+ghost use Rattle.dur_instances.specs.Due.{due_at, purged_from, expired_from, due_changes, due_of, due_with, due_by};
 
-use crate::cells::Cell;
 use crate::changes::Change;
+use crate::keyed::Cells;
 use crate::links::Place;
 use dur_base::{Sample, Ticks};
 
@@ -43,16 +43,6 @@ fn expired_from(lifespan: Option<Ticks>, stamp: Ticks) -> u64
     }
 }
 
-fn due_cells(longest: u64, cells: &[Cell]) -> u64
-    ensures { result ≡ due_cells longest cells.now }
-{
-    let mut due = u64::MAX;
-    for cell in cells {
-        due = earlier(due, purged_from(longest, cell.quiet));
-    }
-    due
-}
-
 // The first moment at which the change that is kept there is expired, or the last moment.
 fn due_at(change: &Option<Change>) -> u64
     ensures { result ≡ due_at change.now }
@@ -88,8 +78,8 @@ pub fn due_by(sample: &Sample, due: Ticks) -> Ticks
 }
 
 /// The least moment at which an instance is purged or a change expires.
-pub fn due_of(longest: u64, cells: &[Cell], places: &[Place]) -> Ticks
-    ensures { result ≡ due_of longest cells.now (kept_in places.now) }
+pub fn due_of(longest: u64, cells: &Cells, places: &[Place]) -> Ticks
+    ensures { result ≡ due_of longest cells.now.list (kept_in places.now) }
 {
-    Ticks(earlier(due_cells(longest, cells), due_changes(places)))
+    Ticks(earlier(cells.due(longest), due_changes(places)))
 }

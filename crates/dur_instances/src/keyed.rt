@@ -46,7 +46,8 @@ impl Model for Cells {
     ghost invariant = { λ s. Distinct s.map.entries };
 }
 
-fn cell_of(key: Key, state: &State) -> Cell
+/// The instance of the key with this state.
+pub fn cell_of(key: Key, state: &State) -> Cell
     ensures { result ≡ record { key = key; disposed = state.now.disposed; quiet = state.now.quiet; count = state.now.count } }
 {
     Cell {
@@ -94,10 +95,7 @@ fn count_awake(map: &IndexMap<[u8; 16], State>, longest: u64, now: Ticks) -> usi
 }
 
 // The instances, in the order of the entries.
-fn cells_of(
-    alloc: Global,
-    entries: &Slice<'_, [u8; 16], State>,
-) -> Result<Vec<Cell>, OutOfMemory>
+fn cells_of(alloc: Global, entries: &Slice<'_, [u8; 16], State>) -> Result<Vec<Cell>, OutOfMemory>
     ensures { IfOk result (λ l. l.items ≡ map cell_by entries.now) }
 {
     let mut cells = Vec::new(alloc);

@@ -106,8 +106,9 @@ pub fn lines_over(
 ) -> Result<List<Instance>, OutOfMemory>
     ensures { IfOk result (λ l. l ≡ map (line_shown topic depth cells.now list.now (left_of cells.now longest now changes.now)) (filter (λ c. not (is_long c.quiet longest now)) cells.now)) }
 {
+    let sorted = cells.cells().listed(alloc)?;
     let mut lines = List::new(alloc);
-    for cell in cells.as_slice() {
+    for cell in &sorted {
         if !is_long(cell.quiet, longest, now) {
             lines.push(line_of(
                 alloc, topic, depth, cells, list, changes, longest, now, cell,
@@ -118,12 +119,12 @@ pub fn lines_over(
 }
 
 // The place of the key's instance among those that exist.
-fn place_there(cells: &Sorted, longest: u64, now: Ticks, key: Key) -> usize
-    ensures place { result ≡ place_in_cells (cells_there cells.now longest now) key }
-    ensures bound { result ≤ length cells.now }
+fn place_there(sorted: &[Cell], longest: u64, now: Ticks, key: Key) -> usize
+    ensures place { result ≡ place_in_cells (cells_there sorted.now longest now) key }
+    ensures bound { result ≤ length sorted.now }
 {
     let mut place = 0;
-    for cell in cells.as_slice() {
+    for cell in sorted {
         if !is_long(cell.quiet, longest, now) {
             if cell.key == key {
                 return place;
@@ -150,6 +151,7 @@ fn shown_ordinal(depth: Option<u32>, first: Option<u32>, later: u32, before: usi
 fn kept_of(
     depth: Option<u32>,
     cells: &Sorted,
+    sorted: &[Cell],
     changes: &[Change],
     longest: u64,
     now: Ticks,
@@ -157,7 +159,7 @@ fn kept_of(
     change: &Change,
 ) -> Result<Kept, OutOfMemory>
     requires { length before.now + 1 < 2 ^ 64 }
-    ensures { IfOk result (λ k. k ≡ kept_shown depth cells.now (cells_there cells.now longest now) (left_of cells.now longest now changes.now) (left_of cells.now longest now before.now) change.now) }
+    ensures { IfOk result (λ k. k ≡ kept_shown depth cells.now (cells_there sorted.now longest now) (left_of cells.now longest now changes.now) (left_of cells.now longest now before.now) change.now) }
 {
     let key = change.sample.key;
     let first = first_later(changes, cells, longest, now, key);
@@ -165,7 +167,7 @@ fn kept_of(
     let count = count_left(before, cells, longest, now, key);
     let sample = change.sample.copy()?;
     Ok(Kept {
-        instance: place_there(cells, longest, now, key) as u64,
+        instance: place_there(sorted, longest, now, key) as u64,
         ordinal: shown_ordinal(depth, first, later, count),
         writer: change.writer,
         number: change.number,
@@ -186,10 +188,11 @@ pub fn kept_over(
     requires { length changes.now < 2 ^ 63 }
     ensures { IfOk result (λ l. l ≡ all_shown depth cells.now (cells_there cells.now longest now) (left_of cells.now longest now changes.now) [] (left_of cells.now longest now changes.now)) }
 {
+    let sorted = cells.cells().listed(alloc)?;
     let mut list = List::new(alloc);
     for (i, change) in changes.iter().enumerate() {
         if !is_gone(cells, longest, now, change) {
-            list.push(kept_of(depth, cells, changes, longest, now, &changes[..i], change)?)?;
+            list.push(kept_of(depth, cells, &sorted, changes, longest, now, &changes[..i], change)?)?;
         }
     }
     Ok(list)

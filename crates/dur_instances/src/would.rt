@@ -11,6 +11,7 @@ ghost use Rattle.dur_instances.specs.Would.{is_left_at, later_in, is_left, fresh
 
 use crate::cells::{Cell, Sorted, count_of, find, raised};
 use crate::changes::{Change, is_gone, is_long, is_over as is_expired};
+use crate::keyed::cell_of;
 use crate::links::Place;
 use dur_base::{Act, Key, Sample, Ticks};
 use dur_qos::Topic;
@@ -170,13 +171,7 @@ fn is_there(cells: &Sorted, longest: u64, now: Ticks, key: Key) -> bool
 fn count_there(cells: &Sorted, longest: u64, now: Ticks) -> usize
     ensures { result ≡ length (cells_there cells.now longest now) }
 {
-    let mut count = 0;
-    for cell in cells.as_slice() {
-        if !is_long(cell.quiet, longest, now) {
-            count += 1;
-        }
-    }
-    count
+    cells.cells().count_there(longest, now)
 }
 
 // How many instances the samples bring: each is counted at its last change.
@@ -227,9 +222,16 @@ fn any_kept_over(
 ) -> bool
     ensures { result ≡ list_any (λ c. not (is_long c.quiet longest now) && is_over limit (count_asked (Some c.key) (left_after cells.now (kept_in places.now) depth longest now samples.now))) cells.now }
 {
-    for cell in cells.as_slice() {
-        if has_more(limit, cells, places, depth, longest, now, samples, cell) {
-            return true;
+    let entries = cells.cells().entries();
+    for i in 0..entries.len() {
+        match entries.get_index(i) {
+            Some((key, state)) => {
+                let cell = cell_of(Key(*key), state);
+                if has_more(limit, cells, places, depth, longest, now, samples, &cell) {
+                    return true;
+                }
+            }
+            None => {}
         }
     }
     false

@@ -15,8 +15,8 @@ loop-i-init c =
 pub loop-i-preserved : goal.loop-i-preserved
 loop-i-preserved c =
     elim c.match-get_index.branch [
-      in-Some w ↦
-        let next = w.due-is ∙ w.earlier-due.ensures ∙ ap (λ n. min c.loop-i.due n) w.purged_from.ensures in
-        record { due = due-step _ _ _ _ _ _ (sym w.in-Some.ensures.entry) c.loop-i.invariant.due next; most = omega arith }
-    | in-None w ↦ let found = w.in-None.ensures.found.1 (omega arith) in absurd (cc)
+      | in-Some w ↦
+          let next = w.due-is ∙ w.earlier-due.ensures ∙ ap (λ n. min c.loop-i.due n) w.purged_from.ensures in
+          record { due = due-step _ _ _ _ _ _ (sym w.in-Some.ensures.entry) c.loop-i.invariant.due next; most = omega arith }
+      | in-None w ↦ let found = w.in-None.ensures.found.1 (omega arith) in absurd (cc)
     ]

@@ -27,18 +27,18 @@ pub returns-then-is_before-clause-trimmed : goal.returns-then-is_before-clause-t
 returns-then-is_before-clause-trimmed c =
     let lt : c.args.moment < c.self.inside.due = ltb-true _ _ (sym c.is_before.ensures ∙ c.if-is_before.true) in
     let is = c.self.invariant.1 in
-    trimmed-before (c.self.inside.topic.delay * 2 ^ 32) c.args.moment c.self.inside.cells.items c.self.inside.changes.items (omega arith)
+    trimmed-before (c.self.inside.topic.delay * 2 ^ 32) c.args.moment c.self.inside.cells.list c.self.inside.changes.items (omega arith)
 
 pub returns-then-is_before-clause-awake : goal.returns-then-is_before-clause-awake
 returns-then-is_before-clause-awake c =
     let lt : c.args.moment < c.self.inside.due = ltb-true _ _ (sym c.is_before.ensures ∙ c.if-is_before.true) in
     let is = c.self.invariant.1 in
-    awake-before (c.self.inside.topic.delay * 2 ^ 32) c.args.moment c.self.inside.cells.items c.self.inside.registered.items c.self.inside.changes.items (omega arith)
+    awake-before (c.self.inside.topic.delay * 2 ^ 32) c.args.moment c.self.inside.cells.list c.self.inside.registered.items c.self.inside.changes.items (omega arith)
 
 pub invariant_of-self-2 : goal.invariant_of-self-2
 invariant_of-self-2 c = (
   (swept _ _ _ _ _ _ _ c.self.invariant.0 _ _ refl (c.of.ensures ∙ c.deref.ensures.value) c.sweep-2.ensures.items c.sweep.ensures.items).laid,
-  (let is = c.due_of-self-inside.ensures ∙ ap (λ (l : List Cell). due_of (c.self.inside.topic.delay * 2 ^ 32) l (kept_in c.places.result.now)) c.deref-2.ensures.value ∙ ap (λ (l : List Change). due_of (c.self.inside.topic.delay * 2 ^ 32) c.sweep-2.new.cells.items l) c.places.ensures in omega arith),
+  (let is = c.due_of-self-inside.ensures ∙ ap (λ (l : List Cell). due_of (c.self.inside.topic.delay * 2 ^ 32) l (kept_in c.places.result.now)) c.deref-2.ensures.value ∙ ap (λ (l : List Change). due_of (c.self.inside.topic.delay * 2 ^ 32) c.sweep-2.new.cells.list l) c.places.ensures in omega arith),
 )
 
 pub returns-clause-stands : goal.returns-clause-stands
@@ -67,4 +67,4 @@ returns-clause-room c =
     omega arith
 
 pub of-requires : goal.of-requires
-of-requires c = laid-order c.self.inside.topic c.self.inside.cells.items _ c.self.inside.registered.items c.self.inside.changes.items c.self.invariant.0 c.deref.ensures.value
+of-requires c = laid-order c.self.inside.topic c.self.inside.cells.list _ c.self.inside.registered.items c.self.inside.changes.items c.self.invariant.0 c.deref.ensures.value

@@ -23,7 +23,7 @@ use Rattle.dur_instances.proofs.Settled.{Ends, settles, unregisters}
 use Rattle.dur_instances.proofs.instances.Instances.unregister.Goals as goal
 
 after : (c : goal.After-self-1) (w : Guid) (n ar : ℕ) (x : Sample) → x.act ≡ Unregister → x.key ≡ c.args.key
-    → After c.self.inside.topic c.self.inside.cells.items c.settle.new.cells.items c.self.inside.registered.items c.leave.new.list.items c.self.inside.changes.items c.self.inside.changes.items (Effect c.args.moment c.args.writer w n ar x)
+    → After c.self.inside.topic c.self.inside.cells.list c.settle.new.cells.list c.self.inside.registered.items c.leave.new.list.items c.self.inside.changes.items c.self.inside.changes.items (Effect c.args.moment c.args.writer w n ar x)
 after c w n ar x is key =
     let m = c.args.moment in
     let e = Effect m c.args.writer w n ar x in
@@ -31,24 +31,24 @@ after c w n ar x is key =
     c.leave.ensures.items ∙ ap (λ (k : Key). filter (λ r. not (is_one r record { key = k; by = c.args.writer })) c.self.inside.registered.items) (sym key) in
     let ends = subst (λ (l : List Registered). Ends e c.self.inside.registered.items l) (sym regs2-is) (unregisters m c.args.writer w n ar x c.self.inside.registered.items is c.self.invariant.0.by_place) in
     let awake = subst (λ (t : Trimmed). (k : Key) → is_long (row_at t.rows k).quiet (t.settings.delay * 2 ^ 32) m ≡ false) (sym c.self.view_is) c.sweep.ensures.awake in
-    let cells2-is : c.settle.new.cells.items ≡ map (settled c.leave.new.list.items m) c.self.inside.cells.items = c.settle.ensures.items ∙ ap (λ (l : List Registered). map (settled l m) c.self.inside.cells.items) c.deref.ensures.value in
-    subst (λ (l : List Cell). After c.self.inside.topic c.self.inside.cells.items l c.self.inside.registered.items c.leave.new.list.items c.self.inside.changes.items c.self.inside.changes.items e) (sym cells2-is)
-    (settles c.self.inside.topic c.self.inside.cells.items c.self.inside.registered.items c.leave.new.list.items c.self.inside.changes.items c.self.invariant.0 e ends awake)
+    let cells2-is : c.settle.new.cells.list ≡ map (settled c.leave.new.list.items m) c.self.inside.cells.list = c.settle.ensures.items ∙ ap (λ (l : List Registered). map (settled l m) c.self.inside.cells.list) c.deref.ensures.value in
+    subst (λ (l : List Cell). After c.self.inside.topic c.self.inside.cells.list l c.self.inside.registered.items c.leave.new.list.items c.self.inside.changes.items c.self.inside.changes.items e) (sym cells2-is)
+    (settles c.self.inside.topic c.self.inside.cells.list c.self.inside.registered.items c.leave.new.list.items c.self.inside.changes.items c.self.invariant.0 e ends awake)
 
 -- some sample that unregisters
 abbrev some : (c : goal.After-self-1) → Sample
 some c = record { key = c.args.key; act = Unregister; stamp = 0; lifespan = None; set = NoSet; original = None; form = Nothing; payload = [] }
 
 -- the cells after the registrations ended
-cells-are : (c : goal.After-self-1) → c.settle.new.cells.items ≡ map (settled c.leave.new.list.items c.args.moment) c.self.inside.cells.items
-cells-are c = c.settle.ensures.items ∙ ap (λ (l : List Registered). map (settled l c.args.moment) c.self.inside.cells.items) c.deref.ensures.value
+cells-are : (c : goal.After-self-1) → c.settle.new.cells.list ≡ map (settled c.leave.new.list.items c.args.moment) c.self.inside.cells.list
+cells-are c = c.settle.ensures.items ∙ ap (λ (l : List Registered). map (settled l c.args.moment) c.self.inside.cells.list) c.deref.ensures.value
 
 pub invariant_of-self : goal.invariant_of-self
 invariant_of-self c = (
   (after c [] 0 0 (some c) refl refl).laid,
   (let longest = c.self.inside.topic.delay * 2 ^ 32 in
       let le = c.self.invariant.1 in
-      let by = after-ends longest c.args.moment c.self.inside.due c.leave.new.list.items c.self.inside.cells.items c.self.inside.changes.items le in
+      let by = after-ends longest c.args.moment c.self.inside.due c.leave.new.list.items c.self.inside.cells.list c.self.inside.changes.items le in
       let at = subst (λ (l : List Cell). due_with longest (Some c.args.moment) c.self.inside.due ≤ due_of longest l c.self.inside.changes.items) (sym (cells-are c)) by in
       let is = c.due_with-self-inside.ensures in
       omega arith),

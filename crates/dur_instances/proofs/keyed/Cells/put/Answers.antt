@@ -15,5 +15,5 @@ returns-clause-list c =
     let s : State = record { disposed = raw.1.0; quiet = raw.1.1.0; count = raw.1.1.1.0 } in
     let es = c.self.inside.map.entries in
     let puts : (q : Key) → had q c.insert.new.self.entries ≡ cond (is_key raw.0.0 q) (Some s) (had q es) =
-        elim c.match-insert.branch [ in-Ok w ↦ w.in-Ok.ensures.updates.0 | in-Err w ↦ absurd (search rules) ] in
+    elim c.match-insert.branch [ in-Ok w ↦ w.in-Ok.ensures.updates.0 | in-Err w ↦ absurd (search rules) ] in
     put-by raw.0.0 s es c.insert.new.self.entries puts ∙ ap (λ (x : Cell). with_cell x (cells_by es)) c.cell.view_is ∙ ap (λ (v : CellsNow). with_cell c.args.cell v.list) c.self.view_is
