@@ -238,6 +238,7 @@ fn time_hub(rt: &HostRuntime, text: &[u8], guids: &[Guid], kind: Kind, order: Or
 fn admit_all(store: &mut Store, guids: &[Guid], turns: u64) {
     for turn in 0..turns {
         for guid in guids {
+            let _room = store.reserve();
             let _admitted = store.admit(entry(*guid, turn.saturating_add(1)));
         }
     }

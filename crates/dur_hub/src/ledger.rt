@@ -1,6 +1,6 @@
 //! The store, and what of it waits to be handed out.
 
-ghost use Rattle.std.specs.Prelude.{◌≡◌, ℕ, List, [], ◌∷◌, ◌++◌, Err, OnOk, OnErr};
+ghost use Rattle.std.specs.Prelude.{◌≡◌, ℕ, List, [], ◌∷◌, ◌++◌, Err, OnOk, OnErr, IfErr};
 ghost use Rattle.dur_view.specs.declared.data.View.{View};
 ghost use Rattle.dur_store.specs.Keeps.{Keeps};
 ghost use Rattle.dur_view.specs.History.{History, Start, ◌▸◌, start, writer_of, HasShortNumber, Follows};
@@ -38,6 +38,17 @@ fn refused_for(refuse: Refuse) -> Refused
     }
 }
 
+// The store gets room for its next entry, and stands for the same history.
+fn make_room(store: &mut Store) -> Result<(), Refused>
+    ensures keeps { (h : History) → Keeps store.old h → Keeps store.new h }
+    ensures memory { IfErr result (λ refused. refused ≡ Refused.OutOfMemory) }
+{
+    match store.reserve() {
+        Ok(()) => Ok(()),
+        Err(_) => Err(Refused::OutOfMemory),
+    }
+}
+
 /// The store of all topics, and the queue of the entries of persistent ones.
 #[derive(Drop)]
 pub struct Ledger {
@@ -68,6 +79,7 @@ impl Ledger {
             → (h : History) (t d : ℕ) → LedgerAt self.old h t d → Follows h entry
             → refused h entry ≡ Some limit }
     {
+        make_room(&mut self.store)?;
         if !stored {
             return match self.store.admit(entry) {
                 Ok(()) => {

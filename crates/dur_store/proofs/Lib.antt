@@ -5,7 +5,9 @@ mod Writers
 mod Wholes
 mod HeldLists
 mod Takings
+mod Rooms
 mod Steps
 mod Entries
+mod Known
 mod Counted
 mod Refusing

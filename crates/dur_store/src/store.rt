@@ -1,6 +1,6 @@
 //! The store of all topics.
 
-ghost use Rattle.std.specs.Prelude.{◌≡◌, ℕ, ◌-◌, ◌^◌, ◌<◌, ◌≤◌, length, OnOk, OnErr, IfOk, IfErr};
+ghost use Rattle.std.specs.Prelude.{◌≡◌, ℕ, ◌-◌, ◌^◌, ◌<◌, ◌≤◌, length, OnOk, OnErr, IfOk, IfErr, IsOk};
 ghost use Rattle.dur_base.specs.declared.entry.Entry.TheVariants.{Took as Takes, Skip as Skips, Lost as Loses};
 ghost use Rattle.dur_qos.specs.Good.{GoodPlan};
 ghost use Rattle.dur_view.specs.History.{History, Start, ◌▸◌, start, moment as last_moment, next, HasShortNumber, Follows};
@@ -12,13 +12,14 @@ ghost use Rattle.dur_view.specs.Past.{past};
 ghost use Rattle.dur_view.specs.Snapshot.{snap};
 ghost use Rattle.dur_view.specs.Refused.{refused};
 ghost use Rattle.dur_store.specs.Keeps.{Keeps};
+ghost use Rattle.dur_store.specs.Room.{HasRoom};
 ghost use Rattle.dur_store.specs.Admitting.{Admitting};
 
 use crate::Refuse;
 use crate::begin::topics_of;
 use crate::index::{index_of, place_of};
 use crate::limits::{is_held_over, limit_with, max_held_of};
-use crate::room::make_room;
+use crate::room::{make_room, need, needed_at, needed_of, room_at, spare_all, spare_at};
 use crate::taking::take_in;
 use crate::whole::parts_of;
 use crate::writer::{Writer, let_go, lines_of, pass_over, would_pass, writers_of};
@@ -45,6 +46,11 @@ pub struct Store {
     index: HashMap<[u8; 16], u32>,
     sets: Sets,
     topics: Vec<Instances>,
+    // For how many changes each topic needs room: more than the members that any writer of it holds.
+    needed: Vec<usize>,
+    // The places of the writer and of the topic whose room the last entry used up.
+    used_writer: usize,
+    used_topic: usize,
 }
 
 impl Store {
@@ -71,7 +77,7 @@ impl Store {
     {
         let sets = Sets::new(alloc, &view)?;
         let index = index_of(alloc, view.writers.as_slice())?;
-        let topics = topics_of(alloc, &view)?;
+        let mut topics = topics_of(alloc, &view)?;
         let View {
             last,
             topics: declared,
@@ -85,20 +91,32 @@ impl Store {
             instances: List::new(alloc),
             kept: List::new(alloc),
         };
+        let mut writers = writers_of(alloc, writers)?;
+        spare_all(&mut writers)?;
+        let needed = needed_of(alloc, &writers, topics.len())?;
+        make_room(&mut topics, &needed)?;
         Ok(Store {
             outline,
-            writers: writers_of(alloc, writers)?,
+            writers,
             index,
             sets,
             topics,
+            needed,
+            used_writer: 0,
+            used_topic: 0,
         })
     }
 
-    /// Makes room for the next entry.
+    /// Makes room for the next entry, whichever it is: of what the last one used up. Where there is room there is no want
+    /// of memory.
     pub fn reserve(&mut self) -> Result<(), OutOfMemory>
-        ensures { (h : History) → Keeps self.old h → Keeps self.new h }
+        ensures ok { OnOk result ((h : History) → Keeps self.old h → HasRoom self.new) }
+        ensures enough { HasRoom self.old → IsOk result }
+        ensures keeps { (h : History) → Keeps self.old h → Keeps self.new h }
     {
-        make_room(&mut self.topics)
+        spare_at(&mut self.writers, self.used_writer)?;
+        let more = needed_at(&self.needed, self.used_topic);
+        room_at(&mut self.topics, self.used_topic, more)
     }
 
     /// Appends the entry, unless it would pass a limit of its topic at its moment: then it is refused for the first of
@@ -176,6 +194,9 @@ impl Store {
         ensures ok { IfOk result (λ a. a.1 ≡ sample) }
         ensures err { IfErr result (λ back. back ≡ sample) }
         ensures keeps { (h : History) → Keeps self.old h → Keeps self.new h }
+        ensures room { HasRoom self.old → HasRoom self.new }
+        ensures memory { HasRoom self.old → (h : History) → Keeps self.old h
+            → Follows h (Takes moment writer number sample) → IsOk result }
     {
         let Some(place) = place_of(&self.index, writer) else {
             return Err(sample);
@@ -245,7 +266,12 @@ impl Store {
             → Keeps self.new (h ▸ Takes moment writer number sample)) }
         ensures err { OnErr result ((h : History) → Keeps self.old h → Keeps self.new h) }
         ensures back { IfErr result (λ back. back ≡ sample) }
+        ensures memory { HasRoom self.old → (h : History) → Keeps self.old h
+            → Follows h (Takes moment writer number sample) → IsOk result }
     {
+        let Ok(()) = self.reserve() else {
+            return Err(sample);
+        };
         let Some(place) = place_of(&self.index, writer) else {
             return Err(sample);
         };
@@ -269,6 +295,9 @@ impl Store {
             &effect,
             sample,
         )?;
+        need(&mut self.needed, topic, self.writers[at].held.len());
+        self.used_writer = at;
+        self.used_topic = topic;
         self.sets.step(place, number, mark);
         stamp(&mut self.outline, moment);
         Ok(())
@@ -281,6 +310,8 @@ impl Store {
             → Follows h (Skips moment writer from to)
             → Keeps self.new (h ▸ Skips moment writer from to)) }
         ensures err { OnErr result ((h : History) → Keeps self.old h → Keeps self.new h) }
+        ensures memory { (h : History) (from : ℕ) → Keeps self.old h
+            → Follows h (Skips moment writer from to) → IsOk result }
     {
         let Some(place) = place_of(&self.index, writer) else {
             return Err(OutOfMemory);
@@ -301,6 +332,8 @@ impl Store {
             → Follows h (Loses moment writer)
             → Keeps self.new (h ▸ Loses moment writer)) }
         ensures err { OnErr result ((h : History) → Keeps self.old h → Keeps self.new h) }
+        ensures memory { (h : History) → Keeps self.old h → Follows h (Loses moment writer)
+            → IsOk result }
     {
         let Some(place) = place_of(&self.index, writer) else {
             return Err(OutOfMemory);

@@ -1,6 +1,6 @@
 //! What is kept of a writer.
 
-ghost use Rattle.std.specs.Prelude.{◌≡◌, ◌+◌, ◌-◌, ◌^◌, ◌<◌, ◌≤◌, ◌++◌, [], map, IfOk, IfErr, IsOk};
+ghost use Rattle.std.specs.Prelude.{◌≡◌, ◌+◌, ◌-◌, ◌^◌, ◌<◌, ◌≤◌, ◌++◌, [], map, IfOk, IfErr, IsOk, OnOk};
 ghost use Rattle.dur_sets.specs.Tells.{closed, if_now};
 ghost use Rattle.dur_store.specs.Members.{IsPassed};
 ghost use Rattle.dur_store.specs.Taking.{IsWhole};
@@ -67,10 +67,21 @@ pub fn lines_of(alloc: Global, writers: &[Writer]) -> Result<List<KeptWriter>, O
     Ok(lines)
 }
 
+/// The writer has room for one member more.
+pub fn spare(writer: &mut Writer) -> Result<(), OutOfMemory>
+    ensures line { line_of writer.new ≡ line_of writer.old }
+    ensures room { OnOk result (0 < writer.new.held.room) }
+    ensures stays { writer.old.held.room ≤ writer.new.held.room }
+    ensures enough { 0 < writer.old.held.room → IsOk result }
+{
+    writer.held.reserve(1)
+}
+
 /// Numbers of the writer are passed over, up to one: it holds no member then.
 pub fn pass_over(writer: &mut Writer, to: Number)
     requires { to < 2 ^ 63 - 1 }
-    ensures { line_of writer.new ≡ record (line_of writer.old) { next = to + 1; held = [] } }
+    ensures line { line_of writer.new ≡ record (line_of writer.old) { next = to + 1; held = [] } }
+    ensures room { writer.old.held.room ≤ writer.new.held.room }
 {
     writer.held.clear();
     writer.next = to.next();
@@ -78,7 +89,8 @@ pub fn pass_over(writer: &mut Writer, to: Number)
 
 /// The writer holds no member then.
 pub fn let_go(writer: &mut Writer)
-    ensures { line_of writer.new ≡ record (line_of writer.old) { held = [] } }
+    ensures line { line_of writer.new ≡ record (line_of writer.old) { held = [] } }
+    ensures room { writer.old.held.room ≤ writer.new.held.room }
 {
     writer.held.clear();
 }
@@ -99,6 +111,7 @@ pub fn would_pass(
     ensures err { IfErr result (λ back. back ≡ sample) }
     ensures enough { 0 < writer.old.held.room → IsOk result }
     ensures line { line_of writer.new ≡ line_of writer.old }
+    ensures room { writer.old.held.room ≤ writer.new.held.room }
 {
     writer.held.would(topic, moment, effect, sample)
 }

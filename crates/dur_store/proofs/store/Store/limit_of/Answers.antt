@@ -16,6 +16,8 @@ use Rattle.dur_store.specs.Limits.{members_then}
 use Rattle.dur_store.proofs.Lists.{got}
 use Rattle.dur_store.proofs.Entries.{one-got, keeps-line}
 use Rattle.dur_store.proofs.Refusing.{refused-is}
+use Rattle.dur_store.proofs.Rooms.{all-stays, put-writers, few-same, same-topics}
+use Rattle.dur_view.specs.declared.data.KeptWriter.{KeptWriter}
 use Rattle.dur_store.proofs.Writers.{kept-at}
 use Rattle.dur_store.proofs.store.Store.limit_of.Goals as goal
 
@@ -64,13 +66,37 @@ returns-in-Ok-clause-keeps c = λ h keeps.
     let s = c.args.self.now in
     let place = c.in-Some.place in
     let in_writers : place < length s.writers.items = (let len = s.writers.ok.0 in omega arith) in
-    keeps-line s (record { outline = s.outline; writers = with_item s.writers place c.would_pass.new.writer; index = s.index; sets = s.sets; topics = s.topics }) h place c.index_mut.result.now c.would_pass.new.writer keeps
-    (got s.writers.items s.writers.items place c.index_mut.result.now refl in_writers c.index_mut.ensures.value) c.would_pass.ensures.line refl refl (λ g. refl) refl refl
+    keeps-line s (record { outline = s.outline; writers = with_item s.writers place c.would_pass.new.writer; index = s.index; sets = s.sets; topics = s.topics; needed = s.needed; used_writer = s.used_writer; used_topic = s.used_topic }) h place c.index_mut.result.now c.would_pass.new.writer keeps
+    (got s.writers.items s.writers.items place c.index_mut.result.now refl in_writers c.index_mut.ensures.value) c.would_pass.ensures.line refl refl (λ g. refl) refl refl c.would_pass.ensures.room (refl, (refl, refl))
 
 pub returns-in-Err-clause-keeps : goal.returns-in-Err-clause-keeps
 returns-in-Err-clause-keeps c = λ h keeps.
     let s = c.args.self.now in
     let place = c.in-Some.place in
     let in_writers : place < length s.writers.items = (let len = s.writers.ok.0 in omega arith) in
-    keeps-line s (record { outline = s.outline; writers = with_item s.writers place c.would_pass.new.writer; index = s.index; sets = s.sets; topics = s.topics }) h place c.index_mut.result.now c.would_pass.new.writer keeps
-    (got s.writers.items s.writers.items place c.index_mut.result.now refl in_writers c.index_mut.ensures.value) c.would_pass.ensures.line refl refl (λ g. refl) refl refl
+    keeps-line s (record { outline = s.outline; writers = with_item s.writers place c.would_pass.new.writer; index = s.index; sets = s.sets; topics = s.topics; needed = s.needed; used_writer = s.used_writer; used_topic = s.used_topic }) h place c.index_mut.result.now c.would_pass.new.writer keeps
+    (got s.writers.items s.writers.items place c.index_mut.result.now refl in_writers c.index_mut.ensures.value) c.would_pass.ensures.line refl refl (λ g. refl) refl refl c.would_pass.ensures.room (refl, (refl, refl))
+
+pub returns-in-Ok-clause-room : goal.returns-in-Ok-clause-room
+returns-in-Ok-clause-room c = λ has.
+    let s = c.args.self.now in
+    let place = c.in-Some.place in
+    let old = c.index_mut.result.now in
+    let w = c.would_pass.new.writer in
+    let in_writers : place < length s.writers.items = (let len = s.writers.ok.0 in omega arith) in
+    all-stays s (record { outline = s.outline; writers = with_item s.writers place w; index = s.index; sets = s.sets; topics = s.topics; needed = s.needed; used_writer = s.used_writer; used_topic = s.used_topic }) has
+    (put-writers s.writers.items (with_item s.writers place w).items place old w (got s.writers.items s.writers.items place old refl in_writers c.index_mut.ensures.value)
+    (ap (λ (l : KeptWriter). l.topic) c.would_pass.ensures.line) (few-same w old (ap (λ (l : KeptWriter). l.held) c.would_pass.ensures.line)) c.would_pass.ensures.room refl)
+    (same-topics s.topics.items s.topics.items refl) refl
+
+pub returns-in-Err-clause-room : goal.returns-in-Err-clause-room
+returns-in-Err-clause-room c = λ has.
+    let s = c.args.self.now in
+    let place = c.in-Some.place in
+    let old = c.index_mut.result.now in
+    let w = c.would_pass.new.writer in
+    let in_writers : place < length s.writers.items = (let len = s.writers.ok.0 in omega arith) in
+    all-stays s (record { outline = s.outline; writers = with_item s.writers place w; index = s.index; sets = s.sets; topics = s.topics; needed = s.needed; used_writer = s.used_writer; used_topic = s.used_topic }) has
+    (put-writers s.writers.items (with_item s.writers place w).items place old w (got s.writers.items s.writers.items place old refl in_writers c.index_mut.ensures.value)
+    (ap (λ (l : KeptWriter). l.topic) c.would_pass.ensures.line) (few-same w old (ap (λ (l : KeptWriter). l.held) c.would_pass.ensures.line)) c.would_pass.ensures.room refl)
+    (same-topics s.topics.items s.topics.items refl) refl

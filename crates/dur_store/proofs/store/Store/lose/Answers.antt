@@ -1,4 +1,4 @@
-use Rattle.std.proofs.Common.{◌≡◌, ℕ, ◌<◌, max, [], length, refl, sym, ap, ◌∙◌, subst, arith}
+use Rattle.std.proofs.Common.{◌≡◌, ℕ, ◌<◌, ◌≤◌, max, [], length, refl, sym, ap, ◌∙◌, subst, arith}
 use Rattle.std.specs.Vec.{with_item}
 use Rattle.dur_view.specs.declared.change.TopicEvent.TheVariants.{Gone}
 use Rattle.dur_view.specs.Past.{◌▹◌}
@@ -24,10 +24,12 @@ returns-clause-ok c = λ h keeps follows.
     let own = one-got s.writers.items place _ old (got s.writers.items s.writers.items place c.index_mut-2.result.now refl in_writers c.index_mut-2.ensures.value) lent in
     let same = one-got s.topics.items old.topic _ x (got s.topics.items s.topics.items old.topic c.index_mut.result.now refl in_topics c.index_mut.ensures.value) there in
     let taken : c.later-taken.result ≡ max c.args.moment x.last = c.later-taken.ensures ∙ ap (λ (k : ℕ). max c.args.moment k) c.last.ensures in
-    keeps-lost s (record { outline = c.stamp.new.outline; writers = with_item s.writers place c.let_go.new.writer; index = s.index; sets = c.lost-2.new.self; topics = with_item s.topics old.topic y })
+    keeps-lost s (record { outline = c.stamp.new.outline; writers = with_item s.writers place c.let_go.new.writer; index = s.index; sets = c.lost-2.new.self; topics = with_item s.topics old.topic y; needed = s.needed; used_writer = s.used_writer; used_topic = s.used_topic })
     h c.args.moment c.args.writer place old c.let_go.new.writer x y keeps follows (sym c.in-Some.ensures) lent there
-    (c.let_go.ensures ∙ ap (λ (w : Writer). record (line_of w) { held = [] }) own)
+    (c.let_go.ensures.line ∙ ap (λ (w : Writer). record (line_of w) { held = [] }) own)
     (λ p st. subst (λ (k : ℕ). Stands y (p ▹ Gone k place)) taken (c.lost.ensures.stands p (subst (λ (t : Trimmed). Stands t p) (sym same) st)))
     (c.lost.ensures.last ∙ taken)
     (λ line at. c.lost-2.ensures.stands h line c.args.moment keeps.sets keeps.history at)
     c.stamp.ensures refl (λ g. refl) refl
+    (subst (λ (w : Writer). w.held.room ≤ c.let_go.new.writer.held.room) own c.let_go.ensures.room)
+    (subst (λ (t : Trimmed). t.room ≤ y.room) same c.lost.ensures.room) (refl, (refl, refl))
