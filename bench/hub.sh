@@ -2,7 +2,7 @@
 # Facts per second that a hub hears, each in a datagram of its own, from 1, 100 and 4,000 writers, in order and with the
 # first of each 16 numbers of a writer missing until the others came. First GAPs, of which the store keeps each in
 # constant time: what is measured is the hub. Then 64 samples of at most four writers, and how much of that time the
-# store alone takes for the same entries: it goes over all entries for each. Each line of GAPs has its ratio to the
+# store alone takes for the same entries. Each line of GAPs has its ratio to the
 # fastest; it ends with the status 1 where one is ten times slower than that.
 #
 # Writes a small program into a folder of its own under the system's temporary folder, with copies of the crates that
@@ -18,7 +18,7 @@ work="$(mktemp -d)"
 trap 'rm -rf "$work"' EXIT
 
 mkdir -p "$work/crates/hub_bench/src"
-for crate in dur_base dur_qos dur_view dur_store dur_hub rel_reader rtps_message rtps_params rtps_submsg; do
+for crate in dur_base dur_qos dur_view dur_sets dur_instances dur_store dur_hub rel_reader rtps_message rtps_params rtps_submsg; do
     mkdir -p "$work/crates/$crate"
     cp -r "$top/crates/$crate"/{src,specs,proofs} "$work/crates/$crate/"
     if [ -d "$top/crates/$crate/out/rlib" ]; then

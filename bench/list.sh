@@ -1,15 +1,13 @@
 #!/usr/bin/env bash
-# How fast `durability list` goes over captures of 250 and of 1,000 samples, or of as many as COUNTS names, of 1, of 16 and
+# How fast `durability list` goes over captures of 1,000 and of 10,000 samples, or of as many as COUNTS names, of 1, of 16 and
 # of 1,000 instances, as datagrams a second and as ratios to `cat` of as many octets and to `durability show` of the same
-# capture. What a run over the plan alone takes is the start of a process, and is not counted but beside `show`. The store behind it looks for
-# each entry at each change of its history and at what came after it, so its time grows with the cube of their number until
-# it keeps an index: 10,000 take more than an hour, and are run from then on.
+# capture. What a run over the plan alone takes is the start of a process, and is not counted but beside `show`.
 #
-#     [COUNTS="1000 10000"] list.sh [PROGRAM]
+#     [COUNTS="100000 1000000"] list.sh [PROGRAM]
 set -eu
 cd "$(dirname "$0")/.."
 program=${1:-$(tests/program.sh)}
-counts=${COUNTS:-250 1000}
+counts=${COUNTS:-1000 10000}
 folder=$(mktemp -d)
 trap 'rm -rf "$folder"' EXIT
 python3 - "$folder" $counts <<'PYTHON'
@@ -48,7 +46,7 @@ cat_time=$(( $(least 5 large cat) - $(least 5 plan cat) ))
 for count in $counts; do
     for instances in 1 16 1000; do
         name=$count-$instances
-        list_time=$(least $(( count > 250 ? 1 : 5 )) "$name" "$program" list)
+        list_time=$(least $(( count > 10000 ? 1 : 5 )) "$name" "$program" list)
         show_time=$(least 5 "$name" "$program" show)
         awk -v count="$count" -v instances="$instances" -v size="$(wc -c < "$folder/$name")" -v large="$(wc -c < "$folder/large")" \
             -v list="$((list_time - start))" -v show="$(awk -v list="$list_time" -v show="$show_time" 'BEGIN { print list / show }')" -v cat="$cat_time" 'BEGIN {

@@ -2,8 +2,7 @@
 # Records a second that `durability rerun` takes into the journal of real files, with 1 and with 100 samples of 256 octets
 # in each datagram of a persistent topic that keeps the newest one of 16 instances. Beside it a program in C that appends
 # and syncs as many octets for each record as the journal does, and SQLite in WAL mode with synchronous FULL (a
-# transaction for each record, by Python's sqlite3). Each line has its ratio to the one in C. The store of today goes
-# over all entries for each, so the number of samples is part of the result.
+# transaction for each record, by Python's sqlite3). Each line has its ratio to the one in C.
 #
 # Usage: bench/rerun.sh [SAMPLES [FOLDER]], by default 400 samples, in a folder under the system's temporary folder.
 set -euo pipefail

@@ -70,10 +70,15 @@ impl Octets {
     }
 }
 
+// So many octets a payload may hold in memory beside twice its own.
+const SPARE: usize = 512;
+
 /// The payload of a sample, whose octets the copies of a sample share.
 #[derive(Drop)]
 pub struct Payload {
     bytes: Bytes<Global>,
+    // How many octets it holds in memory: those of the payload that it is a part of.
+    whole: usize,
 }
 
 impl Model for Payload {
@@ -89,7 +94,8 @@ impl Payload {
     pub fn of(bytes: Bytes<Global>) -> Payload
         ensures { result ≡ bytes }
     {
-        Payload { bytes }
+        let whole = bytes.len();
+        Payload { bytes, whole }
     }
 
     /// How many octets it has.
@@ -111,7 +117,22 @@ impl Payload {
         ensures { IfOk result (λ p. p ≡ self.now) }
     {
         let bytes = self.bytes.clone()?;
-        Ok(Payload { bytes })
+        Ok(Payload {
+            bytes,
+            whole: self.whole,
+        })
+    }
+
+    /// An equal payload that may be kept for long: over the same octets, and a copy of its own where it holds more than
+    /// twice as many in memory and some. A small sample of a large datagram then does not keep the datagram.
+    pub fn to_keep(&self, alloc: Global) -> Result<Payload, OutOfMemory>
+        ensures { IfOk result (λ p. p ≡ self.now) }
+    {
+        if self.whole / 2 <= self.bytes.len().saturating_add(SPARE) {
+            return self.share();
+        }
+        let bytes = Bytes::copy_from_slice(alloc, self.bytes.as_slice())?;
+        Ok(Payload::of(bytes))
     }
 
     /// The payload of its octets from `from` to below `to`, which are not copied.
@@ -121,6 +142,9 @@ impl Payload {
         ensures { IfOk result (λ p. p ≡ slice_range self.now from to) }
     {
         let bytes = self.bytes.slice(from..to)?;
-        Ok(Payload { bytes })
+        Ok(Payload {
+            bytes,
+            whole: self.whole,
+        })
     }
 }

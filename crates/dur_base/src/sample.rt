@@ -4,6 +4,7 @@ ghost use Rattle.std.specs.Prelude.{◌≡◌, ◌≤◌, ◌<◌, ◌+◌, ◌*
 ghost use Rattle.dur_base.specs.Goodness.{IsGood, IsGoodRaw, IsLifespan, IsMark, IsOriginal, IsPayload, IsAct};
 
 use crate::{GREATEST_NUMBER, Guid, Key, LONGEST_PAYLOAD, Number, OutOfMemory, Payload, Ticks};
+use std::alloc::Global;
 
 /// What a sample does to its instance.
 #[derive(Clone, Copy, Debug, PartialEq, Eq, Drop)]
@@ -102,7 +103,24 @@ impl Sample {
         ensures { IfOk result (λ s. s ≡ self.now) }
     {
         let payload = self.payload.share()?;
-        Ok(Sample {
+        Ok(self.with(payload))
+    }
+
+    /// An equal sample that may be kept for long: its payload does not hold a datagram many times its size
+    /// (`Payload::to_keep`).
+    pub fn to_keep(&self, alloc: Global) -> Result<Sample, OutOfMemory>
+        ensures { IfOk result (λ s. s ≡ self.now) }
+    {
+        let payload = self.payload.to_keep(alloc)?;
+        Ok(self.with(payload))
+    }
+
+    // The sample over an equal payload.
+    fn with(&self, payload: Payload) -> Sample
+        requires { payload ≡ self.now.payload }
+        ensures { result ≡ self.now }
+    {
+        Sample {
             key: self.key,
             act: self.act,
             stamp: self.stamp,
@@ -111,7 +129,7 @@ impl Sample {
             original: self.original,
             form: self.form,
             payload,
-        })
+        }
     }
 
     /// Whether it is good: what every call that takes one asks of it.

@@ -93,6 +93,17 @@ fn samples_are_copied_and_judged(rt: HostRuntime) {
 }
 
 #[test]
+fn a_small_part_of_much_is_kept_by_itself(rt: HostRuntime) {
+    let much = Bytes::copy_from_slice(rt.alloc(), &[0xaa; 1200]).expect(&rt, "memory");
+    let mut sample = sample(rt.alloc()).expect(&rt, "memory");
+    sample.payload = Payload::of(much).part(3, 7).expect(&rt, "memory");
+    let kept = sample.to_keep(rt.alloc()).expect(&rt, "memory");
+    assert!(rt; kept.payload.as_slice() == [0xaa; 4].as_slice());
+    let again = kept.to_keep(rt.alloc()).expect(&rt, "memory");
+    assert!(rt; again.payload.as_slice() == [0xaa; 4].as_slice());
+}
+
+#[test]
 fn a_status_above_three_is_not_good(rt: HostRuntime) {
     let raw = Raw {
         hash: None,

@@ -7,7 +7,7 @@ use Rattle.dur_qos.specs.declared.plan.Topic.{Topic}
 use Rattle.dur_qos.specs.declared.plan.ReaderLine.{ReaderLine}
 use Rattle.dur_qos.specs.Plan.{place_of}
 use Rattle.dur_view.specs.Identities.{Guid}
-use Rattle.dur_view.specs.History.{History, start}
+use Rattle.dur_view.specs.History.{History, start, moment}
 use Rattle.dur_view.specs.Past.{past}
 use Rattle.dur_view.specs.Snapshot.{snap}
 use Rattle.dur_view.specs.Full.{topic_place}
@@ -171,7 +171,7 @@ place_is plan topics places t p fit lt at =
 -- what the store answers for that place
 pub changes_told : (hub : Hub) (topic p now : ℕ) (s : Snapshot) (ls : List ℕ) → ls ≡ hub.places
     → p ≡ get_or ls topic p
-    → ((h : History) → Keeps hub.ledger.store h → p < length (start h).topics → s.changes ≡ snap (past p h) now)
+    → ((h : History) → Keeps hub.ledger.store h → p < length (start h).topics → moment h ≤ now → s.changes ≡ snap (past p h) now)
     → (r : Run) → HubAt hub r → topic < length r.plan.topics → r.moment ≤ now
     → s.changes ≡ listing r topic now
 changes_told hub topic p now s ls places at told r here lt late =
@@ -180,7 +180,8 @@ changes_told hub topic p now s ls places at told r here lt late =
     (at ∙ ap (λ l. get_or l topic p) places) in
     let within : p < length (start r.history).topics =
     subst (λ q. q < length (start r.history).topics) (sym is) (here.places.within topic lt) in
-    told r.history here.at.ledger.keeps within ∙ ap (λ q. snap (past q r.history) now) is
+    let early : moment r.history ≤ now = omega (arith, here.at.good.early, late) in
+    told r.history here.at.ledger.keeps within early ∙ ap (λ q. snap (past q r.history) now) is
 
 -- a reader that is served has a topic of the plan
 pub served_within : (plan : Plan) (line : ReaderLine) → not (is_served_in plan line) ≡ false

@@ -32,7 +32,7 @@ fn take_sample(
     requires short { number < 2 ^ 63 - 1 }
     ensures { Turns ledger.old proxy.old writer stored moment result ledger.new proxy.new }
 {
-    let sample = match proxy.sample().copy() {
+    let sample = match proxy.sample().to_keep(ledger.queue.alloc()) {
         Ok(sample) => sample,
         Err(_) => return Turned::Done(End::Stopped),
     };

@@ -23,7 +23,7 @@ use Rattle.dur_instances.specs.declared.changes.Change.{Change}
 use Rattle.dur_instances.specs.Trimmed.{Row, Late, made_of_late, begun_by, row_in, row_at, blank_row, top}
 use Rattle.dur_instances.specs.Kept.{EachLate, NotBefore, Falls, IsOfRows, IsKept}
 use Rattle.dur_instances.specs.Steps.{is_row_quiet, row_after, late_after, late_by}
-use Rattle.dur_instances.specs.Layout.{row_of, rows_of, late_of, lates_of, cell_in, with_cell, places, regs_after, ByPlace, raised, next_count, count_after, count_in, is_deep_in, IsLaid, EachChange}
+use Rattle.dur_instances.specs.Layout.{row_of, rows_of, late_of, lates_of, cell_in, with_cell, places, regs_after, InOrder, raised, next_count, count_after, count_in, is_deep_in, IsLaid, EachChange}
 use Rattle.dur_instances.proofs.CellLists.{row_in-cells, cell_in-with, cell_in-key, keys-rows, keys-with}
 use Rattle.dur_instances.specs.Layout.{keys_of}
 use Rattle.dur_instances.proofs.RegLists.{places-with, places-leave, order-with, order-without}
@@ -34,7 +34,7 @@ use Rattle.dur_view.specs.Later.{SameFrom}
 use Rattle.dur_view.proofs.SameLaw.{same-trans}
 
 -- the registered writers of each instance
-pub places-after : (act : Act) (one : Registered) (regs : List Registered) (k : Key) → ByPlace regs → places (regs_after act one regs) k ≡ cond (is_key one.key k) (registered_by act one.by (places regs k)) (places regs k)
+pub places-after : (act : Act) (one : Registered) (regs : List Registered) (k : Key) → InOrder regs → places (regs_after act one regs) k ≡ cond (is_key one.key k) (registered_by act one.by (places regs k)) (places regs k)
 places-after Write one regs k up = places-with one regs k up
 places-after Dispose one regs k up = places-with one regs k up
 places-after Unregister one regs k up = places-leave one regs k
@@ -45,7 +45,7 @@ places-after Marker one regs k up = same (is_key one.key k)
     same true = refl
     same false = refl
 
-pub order-after : (act : Act) (one : Registered) (regs : List Registered) → ByPlace regs → ByPlace (regs_after act one regs)
+pub order-after : (act : Act) (one : Registered) (regs : List Registered) → InOrder regs → InOrder (regs_after act one regs)
 order-after Write one regs up = order-with one regs up
 order-after Dispose one regs up = order-with one regs up
 order-after Unregister one regs up = order-without _ regs up
@@ -219,7 +219,7 @@ module _ (s : Topic) (cells : List Cell) (regs : List Registered) (changes : Lis
         let found : row_in (rows_of cells2 regs2) k ≡ Some (row_of regs2 cell) = row_in-cells cells2 regs2 k ∙ ap (λ o. option_map (row_of regs2) o) (cell_in-with cell cells k ∙ ap (λ b. cond b (Some cell) (cell_in cells k)) own) in
         let key : r.key ≡ k = row_at-key (rows_of cells regs) k in
         let before : r.registered ≡ places regs k = row_at-registered cells regs k (laid.known k) in
-        let after : places regs2 k ≡ registered_by x.act by (places regs k) = places-after x.act one regs k laid.by_place ∙ ap (λ b. cond b (registered_by x.act by (places regs k)) (places regs k)) own in
+        let after : places regs2 k ≡ registered_by x.act by (places regs k) = places-after x.act one regs k laid.in_order ∙ ap (λ b. cond b (registered_by x.act by (places regs k)) (places regs k)) own in
         let of-r : is_of r.key e ≡ true = ap (λ (j : Key). is_of j e) key ∙ of in
         let own-r : is_key x.key r.key ≡ true = ap (λ (j : Key). is_key x.key j) key ∙ own in
         let registered : registered_after e r.key r.registered ≡ places regs2 k = ap (λ b. cond b (registered_by x.act by r.registered) r.registered) own-r ∙ ap (λ (l : List ℕ). registered_by x.act by l) before ∙ sym after in
@@ -250,7 +250,7 @@ module _ (s : Topic) (cells : List Cell) (regs : List Registered) (changes : Lis
             let told : is_some r.quiet ≡ is_row_quiet r = subst (λ (y : Row). is_some y.quiet ≡ is_row_quiet y) found quiet in
             let other-c : is_key x.key c.key ≡ false = ap (λ (j : Key). is_key x.key j) key ∙ other in
             let of-c : is_of c.key e ≡ false = is-of c.key false other-c in
-            let places-c : places regs2 c.key ≡ places regs c.key = places-after x.act one regs c.key laid.by_place ∙ ap (λ b. cond b (registered_by x.act by (places regs c.key)) (places regs c.key)) other-c in
+            let places-c : places regs2 c.key ≡ places regs c.key = places-after x.act one regs c.key laid.in_order ∙ ap (λ b. cond b (registered_by x.act by (places regs c.key)) (places regs c.key)) other-c in
             let registered : registered_after e c.key (places regs c.key) ≡ places regs c.key = ap (λ b. cond b (registered_by x.act by (places regs c.key)) (places regs c.key)) other-c in
             let disposed : disposed_after e c.key c.disposed ≡ c.disposed = ap (λ b. cond b (disposes x.act) c.disposed) of-c in
             let since : c.quiet ≡ cond (is_row_quiet r) (cond (is_row_quiet r) c.quiet (Some m)) None = untold-at c.quiet (is_row_quiet r) m told in
@@ -276,7 +276,7 @@ module _ (s : Topic) (cells : List Cell) (regs : List Registered) (changes : Lis
         at true own = let f = cell_in-with cell cells k in let g : cell_in cells2 k ≡ Some cell = f ∙ ap (λ b. cond b (Some cell) (cell_in cells k)) own in absurd (cc)
         at false other =
             let f : cell_in cells k ≡ None = sym (cell_in-with cell cells k ∙ ap (λ b. cond b (Some cell) (cell_in cells k)) other) ∙ none_there in
-            places-after x.act one regs k laid.by_place ∙ ap (λ b. cond b (registered_by x.act by (places regs k)) (places regs k)) other ∙ laid.known k f
+            places-after x.act one regs k laid.in_order ∙ ap (λ b. cond b (registered_by x.act by (places regs k)) (places regs k)) other ∙ laid.known k f
 
   -- the counters
   module _ (count-is : count ≡ count_after s.depth (count_in cells x.key)) (count-range : count < 2 ^ 32) where
@@ -447,7 +447,7 @@ applied s cells regs changes laid m by w n ar x change q count quiet-is count-is
       laid =
           record {
             kept = is3;
-            by_place = subst ByPlace (sym regs-is) (order-after x.act record { key = x.key; by = by } regs laid.by_place);
+            in_order = subst InOrder (sym regs-is) (order-after x.act record { key = x.key; by = by } regs laid.in_order);
             known =
                 subst (λ l. (k : Key) → cell_in l k ≡ None → places regs2 k ≡ []) (sym cells-is)
                 (subst (λ l. (k : Key) → cell_in (with_cell record { key = x.key; disposed = disposes x.act; quiet = q; count = count } cells) k ≡ None → places l k ≡ []) (sym regs-is) (known-after s cells regs changes laid m by w n ar x change q count quiet-is));

@@ -1,8 +1,7 @@
 -- Which changes are displaced by a new one: those of its instance that are past the depth.
 use Rattle.std.proofs.Common.{◌≡◌, ℕ, ◌≤◌, Bool, true, false, cond, not, ◌&&◌, Option, Some, None, List, [], ◌∷◌, ◌++◌, refl, sym, ap, ◌∙◌, subst, arith}
-use Rattle.std.specs.Prelude.{nat_le, filter, option_map, unwrap_or}
+use Rattle.std.specs.Prelude.{filter, option_map, unwrap_or}
 use Rattle.std.proofs.lemmas.Bool.{leb-true, le-leb}
-use Rattle.dur_qos.specs.declared.plan.Topic.{Topic}
 use Rattle.dur_view.specs.Identities.{Key}
 use Rattle.dur_view.specs.Words.{is_key}
 use Rattle.dur_view.specs.Fates.{reaches}

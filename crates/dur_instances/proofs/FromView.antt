@@ -27,7 +27,7 @@ use Rattle.dur_instances.specs.declared.registered.Registered.{Registered}
 use Rattle.dur_instances.specs.declared.changes.Change.{Change}
 use Rattle.dur_instances.specs.Trimmed.{made_of_late, begun_by, row_in, row_at, blank_row, top}
 use Rattle.dur_instances.specs.Kept.{EachLate, NotBefore, Falls, IsOfRows, IsKept}
-use Rattle.dur_instances.specs.Layout.{row_of, rows_of, late_of, lates_of, cell_in, keys_of, places, with_one, ByPlace, raised, count_in, IsLaid, EachChange}
+use Rattle.dur_instances.specs.Layout.{row_of, rows_of, late_of, lates_of, cell_in, keys_of, places, with_one, InOrder, raised, count_in, IsLaid, EachChange}
 use Rattle.dur_instances.specs.FromView.{cell_of_line, lines_in, with_all, with_lines, start_at, gap, change_by, counted_in, with_kept, changes_in}
 use Rattle.dur_instances.proofs.Rows.{disposed-begun, registered-begun, quiet-begun, born-begun, count-begun}
 use Rattle.dur_instances.proofs.KeyLists.{less-other, same-keys}
@@ -37,11 +37,11 @@ use Rattle.dur_instances.proofs.Laws.{begun-good, begun-order}
 use Rattle.dur_instances.proofs.Shown.{find-map}
 
 -- Registrations.
-all-order : (k : Key) (xs : List ℕ) (regs : List Registered) → ByPlace regs → ByPlace (with_all k xs regs)
+all-order : (k : Key) (xs : List ℕ) (regs : List Registered) → InOrder regs → InOrder (with_all k xs regs)
 all-order k [] regs up = up
 all-order k (x ∷ xs) regs up = all-order k xs (with_one record { key = k; by = x } regs) (order-with record { key = k; by = x } regs up)
 
-pub lines-order : (lines : List Instance) (regs : List Registered) → ByPlace regs → ByPlace (with_lines lines regs)
+pub lines-order : (lines : List Instance) (regs : List Registered) → InOrder regs → InOrder (with_lines lines regs)
 lines-order [] regs up = up
 lines-order (line ∷ lines) regs up = lines-order lines (with_all line.key line.registered regs) (all-order line.key line.registered regs up)
 
@@ -49,7 +49,7 @@ abbrev put_all : List ℕ → List ℕ → List ℕ
 put_all [] ys = ys
 put_all (x ∷ xs) ys = put_all xs (with_place x ys)
 
-all-places : (k j : Key) (xs : List ℕ) (regs : List Registered) → ByPlace regs → places (with_all k xs regs) j ≡ cond (is_key k j) (put_all xs (places regs j)) (places regs j)
+all-places : (k j : Key) (xs : List ℕ) (regs : List Registered) → InOrder regs → places (with_all k xs regs) j ≡ cond (is_key k j) (put_all xs (places regs j)) (places regs j)
 all-places k j [] regs up = at (is_key k j)
   where
     at : (b : Bool) → places regs j ≡ cond b (places regs j) (places regs j)
@@ -107,7 +107,7 @@ abbrev put_by : Option Instance → List ℕ → List ℕ
 put_by None ys = ys
 put_by (Some line) ys = put_all line.registered ys
 
-lines-places : (lines : List Instance) (regs : List Registered) (k : Key) → ByPlace regs → Ascending (map (λ line. line.key) lines) → places (with_lines lines regs) k ≡ put_by (line_in lines k) (places regs k)
+lines-places : (lines : List Instance) (regs : List Registered) (k : Key) → InOrder regs → Ascending (map (λ line. line.key) lines) → places (with_lines lines regs) k ≡ put_by (line_in lines k) (places regs k)
 lines-places [] regs k up order = refl
 lines-places (line ∷ lines) regs k up order =
     lines-places lines (with_all line.key line.registered regs) k (all-order line.key line.registered regs up) order.1
@@ -345,7 +345,7 @@ module _ (v : View) (t : ℕ) (s : Topic) (sound : PassesTests v) (is-topic : sl
   laid-view =
       record {
         kept = is-kept;
-        by_place = lines-order lines [] tt;
+        in_order = lines-order lines [] tt;
         known = unknown;
         deep = deep;
         counts = λ k. (let c = counter k in omega arith);

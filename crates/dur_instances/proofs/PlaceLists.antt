@@ -1,6 +1,6 @@
 -- What is kept at places, along them.
-use Rattle.std.proofs.Common.{◌≡◌, ℕ, zero, suc, ◌+◌, ◌<◌, ◌≤◌, Bool, true, false, cond, not, ◌&&◌, Option, Some, None, List, [], ◌∷◌, ◌++◌, map, length, drop, get_or, refl, sym, ap, ◌∙◌, subst, arith, append_assoc}
-use Rattle.std.specs.Prelude.{filter, count_by, sum_by, min}
+use Rattle.std.proofs.Common.{◌≡◌, ℕ, zero, suc, ◌+◌, ◌<◌, Bool, true, false, cond, not, ◌&&◌, Option, Some, None, List, [], ◌∷◌, map, length, drop, get_or, refl, sym, ap, ◌∙◌, subst, arith}
+use Rattle.std.specs.Prelude.{filter, count_by, min}
 use Rattle.std.proofs.lemmas.List.Sums.{sum_by-cons}
 use Rattle.std.specs.HashMap.{HashMap}
 use Rattle.dur_base.specs.declared.sample.Sample.{Sample}
@@ -10,9 +10,9 @@ use Rattle.dur_instances.specs.declared.changes.Change.{Change}
 use Rattle.dur_instances.specs.declared.links.Place.{Place}
 use Rattle.dur_instances.specs.declared.order.Ends.{Ends}
 use Rattle.dur_instances.specs.Layout.{is_change_of, is_gone_in, EachChange}
-use Rattle.dur_instances.specs.Due.{last_moment, due_at, due_changes}
+use Rattle.dur_instances.specs.Due.{due_at, due_changes}
 use Rattle.dur_instances.specs.Would.{is_asked, is_left, is_left_at}
-use Rattle.dur_instances.specs.Places.{with_change, kept_in, is_at, Link, Chain, IsOwn, IsLinked, found, first_in, last_in, goes, thinned, is_past, Sinks}
+use Rattle.dur_instances.specs.Places.{with_change, kept_in, is_at, Chain, IsOwn, IsLinked, found, first_in, last_in, goes, thinned, is_past, Sinks}
 use Rattle.dur_instances.proofs.BeforeDue.{changes-most}
 
 -- a step along them

@@ -2,15 +2,14 @@
 use Rattle.std.proofs.Common.{◌≡◌, ℕ, zero, suc, ◌+◌, ◌<◌, ◌≤◌, Bool, true, false, cond, Option, Some, None, List, [], ◌∷◌, ◌++◌, length, refl, sym, ap, ◌∙◌, subst, arith, eqb-true, ne_eqb, eq-eqb}
 use Rattle.std.specs.Prelude.{◌==◌, slice_get, slice_set, slice_index_or}
 use Rattle.std.specs.HashMap.{HashMap}
-use Rattle.std.specs.Str.{bytes_eq}
 use Rattle.std.proofs.lemmas.Slice.Eq.{bytes_eq-Decides}
 use Rattle.dur_instances.specs.declared.changes.Change.{Change}
 use Rattle.dur_instances.specs.declared.links.Place.{Place}
 use Rattle.dur_instances.specs.declared.order.Ends.{Ends}
 use Rattle.dur_view.specs.Identities.{Key}
 use Rattle.dur_view.specs.Words.{is_key}
-use Rattle.dur_instances.specs.Places.{with_change, kept_in, is_at, Link, Chain, IsOwn, IsLinked, found, first_in, last_in, set_next, linked, first_with}
-use Rattle.dur_instances.proofs.Chains.{chain-from, not-here}
+use Rattle.dur_instances.specs.Places.{with_change, kept_in, is_at, Chain, IsOwn, IsLinked, found, first_in, last_in, set_next, linked, first_with}
+use Rattle.dur_instances.proofs.Chains.{chain-from}
 
 -- the last one of a chain is behind its first one
 chain-last : (k : Key) (b i last : ℕ) (ps : List Place) → Chain k b (Some i) last ps → i ≤ last

@@ -150,7 +150,7 @@ module _ (s : Topic) (cells : List Cell) (regs : List Registered) (changes : Lis
   laid-rest =
       record {
         kept = kept-rest;
-        by_place = laid.by_place;
+        in_order = laid.in_order;
         known = known-rest;
         deep = laid.deep;
         counts = counts-rest;

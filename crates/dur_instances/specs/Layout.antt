@@ -1,6 +1,8 @@
 -- The rows and changes that the vectors show.
-use Rattle.std.specs.Prelude.{◌≡◌, ℕ, ◌+◌, ◌-◌, ◌<◌, ◌≤◌, Bool, false, ◌&&◌, ◌||◌, ◌==◌, not, if◌then◌else◌, nat_lt, nat_le, ◌^◌, option_map, unwrap_or, Option, Some, None, List, [], ◌∷◌, ◌++◌, map, filter, find, is_some, count_by}
-use Rattle.std.specs.Ordering.{match_ordering}
+use Rattle.std.specs.Prelude.{◌≡◌, ℕ, ◌+◌, ◌-◌, ◌<◌, Bool, false, ◌&&◌, ◌||◌, ◌==◌, not, if◌then◌else◌, nat_le, ◌^◌, option_map, option_and_then, unwrap_or, Option, Some, None, List, [], ◌∷◌, ◌++◌, map, filter, find, is_some, count_by}
+use Rattle.std.specs.Ordering.{nat_cmp, match_ordering}
+use Rattle.std.specs.declared.cmp.Ordering.{Ordering}
+use Rattle.std.specs.declared.cmp.Ordering.TheVariants.{Less, Greater}
 use Rattle.dur_base.specs.declared.sample.Act.{Act}
 use Rattle.dur_base.specs.declared.sample.Act.TheVariants.{Unregister, DisposeUnregister, Marker}
 use Rattle.dur_qos.specs.declared.plan.Topic.{Topic}
@@ -60,10 +62,14 @@ with_cell c (x ∷ xs) = match_ordering (key_cmp c.key x.key) (c ∷ x ∷ xs) (
 abbrev pub is_one : Registered → Registered → Bool
 is_one a b = (a.by == b.by) && is_key a.key b.key
 
--- registrations by their writers' places, with one more
+-- registrations by the keys of their instances, and those of an instance by the places of their writers
+abbrev pub reg_cmp : Registered → Registered → Ordering
+reg_cmp a b = match_ordering (key_cmp a.key b.key) Less (nat_cmp a.by b.by) Greater
+
+-- registrations in order, with one more
 abbrev pub with_one : Registered → List Registered → List Registered
 with_one r [] = r ∷ []
-with_one r (x ∷ xs) = if nat_lt r.by x.by then r ∷ x ∷ xs else (if is_one x r then x ∷ xs else x ∷ with_one r xs)
+with_one r (x ∷ xs) = match_ordering (reg_cmp r x) (r ∷ x ∷ xs) (x ∷ xs) (x ∷ with_one r xs)
 
 -- the registrations after a sample with this act of the writer and of the instance
 abbrev pub regs_after : Act → Registered → List Registered → List Registered
@@ -72,14 +78,15 @@ regs_after DisposeUnregister one regs = filter (λ r. not (is_one r one)) regs
 regs_after Marker one regs = regs
 regs_after act one regs = with_one one regs
 
-abbrev pub EachFrom : ℕ → List Registered → Type 0
-EachFrom n [] = Unit {0}
-EachFrom n (r ∷ rs) = (n ≤ r.by) × EachFrom n rs
+-- each of them comes after it
+abbrev pub EachAfter : Registered → List Registered → Type 0
+EachAfter r [] = Unit {0}
+EachAfter r (x ∷ xs) = (reg_cmp r x ≡ Less) × EachAfter r xs
 
--- the places of writers do not fall
-abbrev pub ByPlace : List Registered → Type 0
-ByPlace [] = Unit {0}
-ByPlace (r ∷ rs) = EachFrom r.by rs × ByPlace rs
+-- registrations stand in order
+abbrev pub InOrder : List Registered → Type 0
+InOrder [] = Unit {0}
+InOrder (r ∷ rs) = EachAfter r rs × InOrder rs
 
 abbrev pub EachChange : (Change → Type 0) → List Change → Type 0
 EachChange P [] = Unit {0}
@@ -88,7 +95,7 @@ EachChange P (c ∷ cs) = P c × EachChange P cs
 -- what holds of the vectors
 pub record IsLaid (settings : Topic) (cells : List Cell) (regs : List Registered) (changes : List Change) : Type 0 where
   pub kept : IsKept (rows_of cells regs) (lates_of cells changes)
-  pub by_place : ByPlace regs
+  pub in_order : InOrder regs
   pub known : (k : Key) → cell_in cells k ≡ None → places regs k ≡ []
   pub deep : (d : ℕ) → settings.depth ≡ Some d → d < 2 ^ 32
   pub counts : (k : Key) → count_in cells k < 2 ^ 32
@@ -110,6 +117,14 @@ is_deep_in cells depth c = reaches depth (late_of cells c).later
 -- a cell after registrations ended: it may have become quiet at the moment
 abbrev pub settled : List Registered → ℕ → Cell → Cell
 settled regs m c = record c { quiet = if c.disposed && is_nobody (places regs c.key) then (if is_some c.quiet then c.quiet else Some m) else None }
+
+-- a cell after registrations with the instance of a key ended
+abbrev pub settled_at : Key → List Registered → ℕ → Cell → Cell
+settled_at k regs m c = if is_key c.key k then settled regs m c else c
+
+-- since when the instance of a key is quiet
+abbrev pub quiet_in : List Cell → Key → Option ℕ
+quiet_in cells k = option_and_then (λ c. c.quiet) (cell_in cells k)
 
 abbrev pub told_of : Change → Told
 told_of c = record { writer = c.writer; number = c.number; sample = c.sample }

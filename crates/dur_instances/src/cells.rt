@@ -7,7 +7,7 @@ ghost use Rattle.dur_view.specs.Sound.{Ascending};
 ghost use Rattle.dur_view.specs.Words.{is_key};
 ghost use Rattle.dur_view.specs.Fates.{key_cmp, is_long};
 ghost use Rattle.dur_instances.specs.declared.cells.Cell.{Cell as Item};
-ghost use Rattle.dur_instances.specs.Layout.{settled, keys_of, cell_in, with_cell, count_in, raised, count_after, is_purged_in};
+ghost use Rattle.dur_instances.specs.Layout.{settled, settled_at, quiet_in, InOrder, keys_of, cell_in, with_cell, count_in, raised, count_after, is_purged_in};
 
 use crate::changes::is_long;
 use crate::registered::{Registered, is_nobody};
@@ -77,8 +77,8 @@ pub fn find<'a>(cells: &Sorted<'a>, key: Key) -> Option<&'a Cell>
     }
 }
 
-// The place at which the key's instance stands or belongs.
-fn place_of(cells: &[Cell], key: Key) -> usize
+/// The place at which the key's instance stands or belongs.
+pub fn place_of(cells: &[Cell], key: Key) -> usize
     requires { Ascending (keys_of cells.now) }
     ensures bound { result ≤ length cells.now }
     ensures before { (k : ℕ) (x : Item) → k < result → slice_get cells.now k ≡ Some x → key_cmp key x.key ≡ Greater }
@@ -97,7 +97,8 @@ fn place_of(cells: &[Cell], key: Key) -> usize
     low
 }
 
-fn is_at(cells: &[Cell], at: usize, key: Key) -> bool
+/// Whether the key's instance stands there.
+pub fn is_at(cells: &[Cell], at: usize, key: Key) -> bool
     ensures { result ≡ unwrap_or (option_map (λ x. is_key x.key key) (slice_get cells.now at)) false }
 {
     match cells.get(at) {
@@ -182,6 +183,7 @@ fn settled(cell: &Cell, nobody: bool, moment: Ticks) -> Option<Ticks>
 
 /// Begins the quiet stretches of the instances that have become quiet at the moment, for want of registered writers.
 pub fn settle(cells: &mut Vec<Cell>, list: &[Registered], moment: Ticks)
+    requires { InOrder list.now }
     ensures items { cells.new.items ≡ map (settled list.now moment) cells.old.items }
     ensures len { vec_len cells.new ≡ vec_len cells.old }
     ensures capacity { vec_capacity cells.new ≡ vec_capacity cells.old }
@@ -190,5 +192,38 @@ pub fn settle(cells: &mut Vec<Cell>, list: &[Registered], moment: Ticks)
         let cell = &mut cells[at];
         let quiet = settled(cell, is_nobody(list, cell.key), moment);
         cell.quiet = quiet;
+    }
+}
+
+// Begins the quiet stretch of the instance, if it has become quiet, and gives since when it is quiet.
+fn settle_cell(cell: &mut Cell, nobody: bool, moment: Ticks) -> Option<Ticks>
+    ensures cell { cell.new ≡ record cell.old { quiet = result } }
+    ensures quiet { result ≡ (if cell.old.disposed && nobody then (if is_some cell.old.quiet then cell.old.quiet else Some moment) else None) }
+{
+    cell.quiet = settled(cell, nobody, moment);
+    cell.quiet
+}
+
+/// Begins the quiet stretch of the key's instance, if it has become quiet at the moment for want of registered writers,
+/// and gives since when it is quiet.
+pub fn settle_one(
+    cells: &mut Vec<Cell>,
+    list: &[Registered],
+    key: Key,
+    moment: Ticks,
+) -> Option<Ticks>
+    requires order { Ascending (keys_of cells.old.items) }
+    requires registered { InOrder list.now }
+    ensures items { cells.new.items ≡ map (settled_at key list.now moment) cells.old.items }
+    ensures quiet { result ≡ quiet_in cells.new.items key }
+    ensures len { vec_len cells.new ≡ vec_len cells.old }
+    ensures capacity { vec_capacity cells.new ≡ vec_capacity cells.old }
+{
+    let at = place_of(cells, key);
+    if is_at(cells, at, key) {
+        let nobody = is_nobody(list, key);
+        settle_cell(&mut cells[at], nobody, moment)
+    } else {
+        None
     }
 }

@@ -1,7 +1,7 @@
 //! What is kept of a topic in a view.
 
 ghost use Rattle.std.specs.Prelude.{◌≡◌, ◌++◌, [], map, OnOk, IfOk};
-ghost use Rattle.dur_instances.specs.Layout.{ByPlace};
+ghost use Rattle.dur_instances.specs.Layout.{InOrder};
 ghost use Rattle.dur_instances.specs.FromView.{cell_of_line, lines_in, with_all, with_lines, start_at, gap, change_by, counted_in, changes_in};
 
 use crate::cells::Cell;
@@ -39,9 +39,9 @@ pub fn cells_of(alloc: Global, at: u32, lines: &[Instance]) -> Result<Vec<Cell>,
 
 // Registers the writers at these places with the instance.
 fn register_all(list: &mut Vec<Registered>, key: Key, places: &[u32]) -> Result<(), OutOfMemory>
-    requires { ByPlace list.old.items }
+    requires { InOrder list.old.items }
     ensures items { OnOk result (list.new.items ≡ with_all key places.now list.old.items) }
-    ensures order { OnOk result (ByPlace list.new.items) }
+    ensures order { OnOk result (InOrder list.new.items) }
 {
     for by in places {
         if list.reserve(1).is_err() {

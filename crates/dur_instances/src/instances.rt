@@ -1,15 +1,15 @@
 //! The instances and kept changes of one topic.
 
-ghost use Rattle.std.specs.Prelude.{◌≡◌, ℕ, ◌+◌, ◌*◌, ◌^◌, ◌<◌, ◌≤◌, ◌&&◌, true, false, Some, None, if◌then◌else◌, List, slice_get, OnOk, IfOk};
+ghost use Rattle.std.specs.Prelude.{◌≡◌, ℕ, ◌+◌, ◌*◌, ◌^◌, ◌<◌, ◌≤◌, ◌&&◌, true, false, Some, None, Ok, if◌then◌else◌, List, slice_get, OnOk, IfOk};
 ghost use Rattle.dur_base.specs.declared.sample.Sample.{Sample as Told};
-ghost use Rattle.dur_base.specs.declared.sample.Act.TheVariants.{Unregister as Unregisters};
+ghost use Rattle.dur_base.specs.declared.sample.Act.TheVariants.{Unregister as Unregisters, Marker as Marks};
 ghost use Rattle.dur_view.specs.Identities.{Guid as Octets, Key as KeyOctets};
 ghost use Rattle.dur_view.specs.Words.{is_change};
 ghost use Rattle.dur_view.specs.declared.change.TopicEvent.{TopicEvent};
 ghost use Rattle.dur_view.specs.declared.change.TopicEvent.TheVariants.{Effect, Gone};
 ghost use Rattle.dur_view.specs.Past.{Past, Begin, part, ◌▹◌, ◌▹▹◌};
 ghost use Rattle.dur_view.specs.IsSound.{IsSound};
-ghost use Rattle.dur_instances.specs.Layout.{places};
+ghost use Rattle.dur_instances.specs.Layout.{places, InOrder};
 ghost use Rattle.dur_view.specs.Fates.{is_long, is_nobody, disposes, settings, existing, entitled};
 ghost use Rattle.dur_view.specs.Refused.{passed};
 ghost use Rattle.dur_instances.specs.Trimmed.{row_at, blank};
@@ -19,7 +19,7 @@ ghost use Rattle.dur_instances.specs.Stands.{Stands};
 ghost use Rattle.dur_instances.specs.Kept.{NoneIsOver};
 ghost use Rattle.dur_instances.specs.Would.{TakeEffect};
 
-use crate::cells::{self, Cell, Sorted, count_after, count_of, put, settle};
+use crate::cells::{self, Cell, Sorted, count_after, count_of, put, settle, settle_one};
 use crate::changes::Change;
 use crate::due::{due_by, due_of, due_with, is_before};
 use crate::from_view::{cells_of, changes_of, registered_of};
@@ -102,9 +102,19 @@ impl Instances {
         })
     }
 
-    /// Makes places for so many changes more. On want of memory what is kept is as it was.
+    /// The moment up to which events took effect, in ticks of 2^-32 s.
+    pub fn last(&self) -> Ticks
+        ensures { result ≡ self.now.last }
+    {
+        self.last
+    }
+
+    /// Makes places for so many changes more. On want of memory what is kept is as it was. Where there is room for
+    /// them there is no want of memory.
     pub fn reserve(&mut self, more: usize) -> Result<(), OutOfMemory>
         ensures room { OnOk result (more ≤ self.new.room) }
+        ensures enough { more ≤ self.old.room → result ≡ Ok tt }
+        ensures stays { self.old.room ≤ self.new.room }
         ensures rest { self.new ≡ record self.old { room = self.new.room } }
     {
         match self.cells.reserve(more) {
@@ -197,9 +207,22 @@ impl Instances {
     {
         self.sweep(moment);
         leave(&mut self.registered, &Registered { key, by: writer });
-        settle(&mut self.cells, &self.registered, moment);
+        let quiet = settle_one(&mut self.cells, &self.registered, key, moment);
         let longest = self.topic.delay as u64 * 4_294_967_296;
-        self.due = due_with(longest, &Some(moment), self.due);
+        self.due = due_with(longest, &quiet, self.due);
+    }
+
+    /// A marker takes effect: it speaks of no instance, so what is kept stays as it is.
+    pub fn marker(&mut self, moment: Ticks)
+        requires { self.old.last ≤ moment }
+        ensures stands { (p : Past) (by : ℕ) (w : Octets) (n a : ℕ) (s : Told) → s.act ≡ Marks
+            → Stands self.old p → Stands self.new (p ▹ Effect moment by w n a s) }
+        ensures settings { self.new.settings ≡ self.old.settings }
+        ensures last { self.new.last ≡ moment }
+        ensures room { self.old.room ≤ self.new.room }
+    {
+        self.sweep(moment);
+        self.last = moment;
     }
 
     /// The writer at a place of the view, from 0, is lost.
@@ -237,8 +260,8 @@ impl Instances {
         ensures { IfOk result (λ s. (p : Past) → Stands self.now p → s.changes ≡ snap p moment) }
     {
         let longest = self.topic.delay as u64 * 4_294_967_296;
-        let kept = self.changes.list(alloc)?;
-        let changes = entitled_over(alloc, &kept, &Sorted::of(&self.cells), longest, moment)?;
+        let cells = Sorted::of(&self.cells);
+        let changes = entitled_over(alloc, self.changes.places(), &cells, longest, moment)?;
         Ok(Snapshot { changes })
     }
 
@@ -254,14 +277,13 @@ impl Instances {
     {
         let longest = self.topic.delay as u64 * 4_294_967_296;
         let depth = self.topic.depth;
-        let kept = self.changes.list(alloc)?;
         let lines = lines_over(
             alloc,
             at,
             depth,
             &Sorted::of(&self.cells),
             &self.registered,
-            &kept,
+            self.changes.places(),
             longest,
             moment,
         )?;
@@ -275,12 +297,11 @@ impl Instances {
     {
         let longest = self.topic.delay as u64 * 4_294_967_296;
         let depth = self.topic.depth;
-        let changes = self.changes.list(alloc)?;
         let kept = kept_over(
             alloc,
             depth,
             &Sorted::of(&self.cells),
-            &changes,
+            self.changes.places(),
             longest,
             moment,
         )?;
@@ -296,6 +317,7 @@ fn disposes(act: Act) -> bool
 
 // When an instance becomes quiet at the moment, if it does.
 fn quiet_from(disposed: bool, list: &[Registered], key: Key, moment: Ticks) -> Option<Ticks>
+    requires { InOrder list.now }
     ensures { result ≡ (if disposed && is_nobody (places list.now key) then Some moment else None) }
 {
     if disposed && is_nobody(list, key) {

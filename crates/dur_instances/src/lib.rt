@@ -11,6 +11,7 @@ mod links;
 mod listing;
 mod order;
 mod registered;
+mod tallies;
 mod within;
 mod would;
 

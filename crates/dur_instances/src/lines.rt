@@ -1,47 +1,21 @@
 //! What a view says of the instances at a moment.
 
-ghost use Rattle.std.specs.Prelude.{◌≡◌, ◌≤◌, ◌<◌, ◌+◌, ◌^◌, [], not, filter, map, count_by, length, IfOk};
+ghost use Rattle.std.specs.Prelude.{◌≡◌, ℕ, ◌≤◌, ◌<◌, ◌+◌, ◌^◌, ◌++◌, [], ◌∷◌, List, Some, true, false, is_some, not, filter, map, length, slice_get, IfOk, OnOk};
 ghost use Rattle.dur_view.specs.Fates.{is_long};
-ghost use Rattle.dur_instances.specs.Layout.{is_gone_in, left_of, is_change_of, first_later, shown_count, places, line_shown, place_in_cells, shown_ordinal, kept_shown, all_shown, cells_there};
+ghost use Rattle.dur_instances.specs.declared.changes.Change.{Change as Item};
+ghost use Rattle.dur_instances.specs.declared.tallies.Tally.{Tally as Counted};
+ghost use Rattle.dur_instances.specs.Layout.{is_gone_in, left_of, cell_in, shown_count, line_shown, shown_ordinal, kept_shown, all_shown, cells_there, EachChange, InOrder};
+ghost use Rattle.dur_instances.specs.Places.{kept_in};
+ghost use Rattle.dur_instances.specs.Listing.{line_told, kept_told, tallies_of, spots_of};
 
-use crate::cells::{Cell, Sorted, count_of, raised};
-use crate::changes::{Change, is_gone, is_long};
-use crate::registered::Registered;
-use dur_base::{Key, List, OutOfMemory, Ticks};
+use crate::cells::{Cell, Sorted, place_of, raised};
+use crate::changes::{Change, is_long};
+use crate::links::Place;
+use crate::registered::{Registered, places_of};
+use crate::tallies::{Tally, blank, count_change, left_at, spots_over, tallies_over};
+use dur_base::{List, OutOfMemory, Ticks};
 use dur_view::{Instance, Kept};
 use std::alloc::Global;
-
-// How many later changes the first of the key's changes has that are left.
-fn first_later(
-    changes: &[Change],
-    cells: &Sorted,
-    longest: u64,
-    now: Ticks,
-    key: Key,
-) -> Option<u32>
-    ensures { result ≡ first_later cells.now key (left_of cells.now longest now changes.now) }
-{
-    for change in changes {
-        if !is_gone(cells, longest, now, change) && change.sample.key == key {
-            return Some(raised(change.at, count_of(cells, change.sample.key)));
-        }
-    }
-    None
-}
-
-// How many of the key's changes are left.
-fn count_left(changes: &[Change], cells: &Sorted, longest: u64, now: Ticks, key: Key) -> usize
-    ensures count { result ≡ count_by (is_change_of key) (left_of cells.now longest now changes.now) }
-    ensures bound { result ≤ length changes.now }
-{
-    let mut count = 0;
-    for change in changes {
-        if !is_gone(cells, longest, now, change) && change.sample.key == key {
-            count += 1;
-        }
-    }
-    count
-}
 
 fn shown_count(depth: Option<u32>, first: Option<u32>, left: usize) -> u64
     ensures { result ≡ shown_count depth first left }
@@ -55,33 +29,17 @@ fn shown_count(depth: Option<u32>, first: Option<u32>, left: usize) -> u64
     }
 }
 
-fn places_of(alloc: Global, list: &[Registered], key: Key) -> Result<List<u32>, OutOfMemory>
-    ensures { IfOk result (λ l. l ≡ places list.now key) }
-{
-    let mut places = List::new(alloc);
-    for r in list {
-        if r.key == key {
-            places.push(r.by)?;
-        }
-    }
-    Ok(places)
-}
-
 fn line_of(
     alloc: Global,
     topic: u32,
     depth: Option<u32>,
-    cells: &Sorted,
     list: &[Registered],
-    changes: &[Change],
-    longest: u64,
-    now: Ticks,
+    tally: &Tally,
     cell: &Cell,
 ) -> Result<Instance, OutOfMemory>
-    ensures { IfOk result (λ i. i ≡ line_shown topic depth cells.now list.now (left_of cells.now longest now changes.now) cell.now) }
+    requires { InOrder list.now }
+    ensures { IfOk result (λ i. i ≡ line_told topic depth list.now cell.now tally.now) }
 {
-    let first = first_later(changes, cells, longest, now, cell.key);
-    let count = count_left(changes, cells, longest, now, cell.key);
     let registered = places_of(alloc, list, cell.key)?;
     Ok(Instance {
         topic,
@@ -89,7 +47,7 @@ fn line_of(
         disposed: cell.disposed,
         quiet: cell.quiet,
         registered,
-        changes: shown_count(depth, first, count),
+        changes: shown_count(depth, tally.first, tally.count),
     })
 }
 
@@ -100,38 +58,21 @@ pub fn lines_over(
     depth: Option<u32>,
     cells: &Sorted,
     list: &[Registered],
-    changes: &[Change],
+    places: &[Place],
     longest: u64,
     now: Ticks,
 ) -> Result<List<Instance>, OutOfMemory>
-    ensures { IfOk result (λ l. l ≡ map (line_shown topic depth cells.now list.now (left_of cells.now longest now changes.now)) (filter (λ c. not (is_long c.quiet longest now)) cells.now)) }
+    requires { InOrder list.now }
+    ensures { IfOk result (λ l. l ≡ map (line_shown topic depth cells.now list.now (left_of cells.now longest now (kept_in places.now))) (filter (λ c. not (is_long c.quiet longest now)) cells.now)) }
 {
+    let tallies = tallies_over(alloc, cells, places, longest, now)?;
     let mut lines = List::new(alloc);
-    for cell in cells.as_slice() {
+    for (i, cell) in cells.as_slice().iter().enumerate() {
         if !is_long(cell.quiet, longest, now) {
-            lines.push(line_of(
-                alloc, topic, depth, cells, list, changes, longest, now, cell,
-            )?)?;
+            lines.push(line_of(alloc, topic, depth, list, &tallies[i], cell)?)?;
         }
     }
     Ok(lines)
-}
-
-// The place of the key's instance among those that exist.
-fn place_there(cells: &Sorted, longest: u64, now: Ticks, key: Key) -> usize
-    ensures place { result ≡ place_in_cells (cells_there cells.now longest now) key }
-    ensures bound { result ≤ length cells.now }
-{
-    let mut place = 0;
-    for cell in cells.as_slice() {
-        if !is_long(cell.quiet, longest, now) {
-            if cell.key == key {
-                return place;
-            }
-            place += 1;
-        }
-    }
-    place
 }
 
 fn shown_ordinal(depth: Option<u32>, first: Option<u32>, later: u32, before: usize) -> u64
@@ -147,26 +88,23 @@ fn shown_ordinal(depth: Option<u32>, first: Option<u32>, later: u32, before: usi
     }
 }
 
+// What a view says of the change, of which this is told: how many instances come before its own, the first one of those of
+// its instance that are left, and how many come before it.
 fn kept_of(
     depth: Option<u32>,
-    cells: &Sorted,
-    changes: &[Change],
-    longest: u64,
-    now: Ticks,
-    before: &[Change],
+    spot: usize,
+    first: Option<u32>,
+    later: u32,
+    before: usize,
     change: &Change,
 ) -> Result<Kept, OutOfMemory>
-    requires { length before.now + 1 < 2 ^ 64 }
-    ensures { IfOk result (λ k. k ≡ kept_shown depth cells.now (cells_there cells.now longest now) (left_of cells.now longest now changes.now) (left_of cells.now longest now before.now) change.now) }
+    requires { before + 1 < 2 ^ 64 }
+    ensures { IfOk result (λ k. k ≡ kept_told depth spot first later before change.now) }
 {
-    let key = change.sample.key;
-    let first = first_later(changes, cells, longest, now, key);
-    let later = raised(change.at, count_of(cells, change.sample.key));
-    let count = count_left(before, cells, longest, now, key);
     let sample = change.sample.copy()?;
     Ok(Kept {
-        instance: place_there(cells, longest, now, key) as u64,
-        ordinal: shown_ordinal(depth, first, later, count),
+        instance: spot as u64,
+        ordinal: shown_ordinal(depth, first, later, before),
         writer: change.writer,
         number: change.number,
         arrived: change.arrived,
@@ -174,22 +112,59 @@ fn kept_of(
     })
 }
 
+// Adds what a view says of the change.
+fn show(
+    list: &mut List<Kept>,
+    depth: Option<u32>,
+    cells: &Sorted,
+    spots: &[usize],
+    all: &[Tally],
+    before: &[Tally],
+    change: &Change,
+) -> Result<(), OutOfMemory>
+    requires known { is_some (cell_in cells.now change.now.sample.key) ≡ true }
+    requires spots { length spots.now ≡ length cells.now }
+    requires all { length all.now ≡ length cells.now }
+    requires before { length before.now ≡ length cells.now }
+    requires few { (i : ℕ) (t : Counted) → slice_get before.now i ≡ Some t → t.count + 1 < 2 ^ 64 }
+    ensures { (longest now : ℕ) (left earlier : List Item) → spots.now ≡ spots_of longest now 0 cells.now → all.now ≡ tallies_of cells.now left → before.now ≡ tallies_of cells.now earlier → is_gone_in cells.now longest now change.now ≡ false → OnOk result (list.new ≡ list.old ++ kept_shown depth cells.now (cells_there cells.now longest now) left earlier change.now ∷ []) }
+{
+    let cells = cells.as_slice();
+    let at = place_of(cells, change.sample.key);
+    let later = raised(change.at, cells[at].count);
+    list.push(kept_of(
+        depth,
+        spots[at],
+        all[at].first,
+        later,
+        before[at].count,
+        change,
+    )?)
+}
+
 /// What a view says at the moment of the kept changes, in the order of effect, beside the instances that exist then.
 pub fn kept_over(
     alloc: Global,
     depth: Option<u32>,
     cells: &Sorted,
-    changes: &[Change],
+    places: &[Place],
     longest: u64,
     now: Ticks,
 ) -> Result<List<Kept>, OutOfMemory>
-    requires { length changes.now < 2 ^ 63 }
-    ensures { IfOk result (λ l. l ≡ all_shown depth cells.now (cells_there cells.now longest now) (left_of cells.now longest now changes.now) [] (left_of cells.now longest now changes.now)) }
+    requires { EachChange (λ c. is_some (cell_in cells.now c.sample.key) ≡ true) (kept_in places.now) }
+    ensures { IfOk result (λ l. l ≡ all_shown depth cells.now (cells_there cells.now longest now) (left_of cells.now longest now (kept_in places.now)) [] (left_of cells.now longest now (kept_in places.now))) }
 {
+    let all = tallies_over(alloc, cells, places, longest, now)?;
+    let spots = spots_over(alloc, cells.as_slice(), longest, now)?;
+    let mut before = blank(alloc, cells.as_slice())?;
     let mut list = List::new(alloc);
-    for (i, change) in changes.iter().enumerate() {
-        if !is_gone(cells, longest, now, change) {
-            list.push(kept_of(depth, cells, changes, longest, now, &changes[..i], change)?)?;
+    for place in places {
+        match left_at(place, cells, longest, now) {
+            Some(change) => {
+                show(&mut list, depth, cells, &spots, &all, &before, change)?;
+                count_change(&mut before, cells, change);
+            }
+            None => {}
         }
     }
     Ok(list)

@@ -8,9 +8,7 @@ ghost use Rattle.dur_instances.specs.Places.{is_past, goes, thinned, kept_in, pa
 
 use crate::cells::Sorted;
 use crate::changes::{Change, is_gone, is_past};
-use crate::within::push;
-use dur_base::{Key, OutOfMemory, Ticks};
-use std::alloc::Global;
+use dur_base::{Key, Ticks};
 
 /// A place for a change of the instance of the key.
 #[derive(Drop)]
@@ -114,20 +112,6 @@ pub fn sweep(places: &mut Vec<Place>, cells: &Sorted, longest: u64, now: Ticks)
     for at in 0..places.len() {
         thin(&mut places[at], cells, longest, now);
     }
-}
-
-/// The kept changes, side by side.
-pub fn side_by_side(alloc: Global, places: &[Place]) -> Result<Vec<Change>, OutOfMemory>
-    ensures { IfOk result (λ l. l.items ≡ kept_in places.now) }
-{
-    let mut list = Vec::new(alloc);
-    for place in places {
-        match &place.change {
-            Some(change) => push(&mut list, change.copy()?)?,
-            None => {}
-        }
-    }
-    Ok(list)
 }
 
 /// How many changes are kept.

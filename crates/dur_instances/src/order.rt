@@ -1,6 +1,6 @@
 //! Kept changes in the order of effect, each with the place of the next one of its instance.
 
-ghost use Rattle.std.specs.Prelude.{◌≡◌, ℕ, ◌+◌, ◌<◌, ◌≤◌, ◌++◌, [], ◌∷◌, not, ◌&&◌, filter, length, Some, vec_len, vec_capacity, if◌then◌else◌, IfOk, OnOk};
+ghost use Rattle.std.specs.Prelude.{◌≡◌, ℕ, ◌+◌, ◌<◌, ◌≤◌, ◌++◌, [], ◌∷◌, not, ◌&&◌, filter, length, Some, Ok, vec_len, vec_capacity, if◌then◌else◌, IfOk, OnOk};
 ghost use Rattle.std.specs.HashMap.{spare};
 ghost use Rattle.dur_view.specs.Identities.{Key as KeyOctets};
 ghost use Rattle.dur_view.specs.Words.{is_key};
@@ -9,7 +9,7 @@ ghost use Rattle.dur_instances.specs.Places.{is_past, kept_in, found, first_in, 
 
 use crate::cells::Sorted;
 use crate::changes::Change;
-use crate::links::{Place, count_kept, empty_past, side_by_side, sweep};
+use crate::links::{Place, count_kept, empty_past, sweep};
 use crate::within::push_within;
 use dur_base::{Key, OutOfMemory, Ticks};
 use std::alloc::Global;
@@ -141,17 +141,12 @@ impl Changes {
         &self.places
     }
 
-    /// The kept changes, side by side.
-    pub fn list(&self, alloc: Global) -> Result<Vec<Change>, OutOfMemory>
-        ensures { IfOk result (λ l. l.items ≡ self.now.items) }
-    {
-        side_by_side(alloc, &self.places)
-    }
-
     // More places at the end.
     fn widen(&mut self, more: usize) -> Result<(), OutOfMemory>
         ensures items { self.new.items ≡ self.old.items }
         ensures room { OnOk result (more ≤ self.new.room) }
+        ensures enough { more ≤ self.old.room → result ≡ Ok tt }
+        ensures stays { self.old.room ≤ self.new.room }
     {
         match self.places.reserve(more) {
             Ok(()) => {}
@@ -165,8 +160,10 @@ impl Changes {
 
     // Places for these and so many more, without those at which none is kept.
     fn renew(&mut self, more: usize) -> Result<(), OutOfMemory>
+        requires { self.old.room ≤ more }
         ensures items { self.new.items ≡ self.old.items }
         ensures room { OnOk result (more ≤ self.new.room) }
+        ensures stays { self.old.room ≤ self.new.room }
     {
         let all = match count_kept(&self.places).checked_add(more) {
             Some(all) => all,
@@ -179,10 +176,13 @@ impl Changes {
         Ok(())
     }
 
-    /// Makes places for so many more. On want of memory the changes are as they were.
+    /// Makes places for so many more. On want of memory the changes are as they were. Where there is room
+    /// there is no want of memory.
     pub fn reserve(&mut self, more: usize) -> Result<(), OutOfMemory>
         ensures items { self.new.items ≡ self.old.items }
         ensures room { OnOk result (more ≤ self.new.room) }
+        ensures enough { more ≤ self.old.room → result ≡ Ok tt }
+        ensures stays { self.old.room ≤ self.new.room }
     {
         let left = self.places.capacity() - self.places.len();
         if left < more && count_kept(&self.places) <= self.places.len() / 2 {

@@ -2,7 +2,7 @@
 use Rattle.std.proofs.Common.{◌≡◌, ℕ, ◌≤◌, List, [], ◌∷◌, length, Result, Ok, Err, IfOk, refl, sym, ◌∙◌, ap, subst, arith}
 use Rattle.std.specs.List.{AllByRecursion}
 use Rattle.dur_base.specs.declared.entry.Entry.{Entry}
-use Rattle.dur_view.specs.History.{History, Start, ◌▸◌, ◌+>◌, HasShortNumber, AllFollow}
+use Rattle.dur_view.specs.History.{History, Start, ◌▸◌, ◌+>◌, HasShortNumber, Follows, AllFollow}
 use Rattle.dur_view.specs.IsSound.{IsHistory}
 use Rattle.dur_view.specs.History.{moment}
 use Rattle.dur_view.specs.View.{view}
@@ -11,6 +11,7 @@ use Rattle.dur_view.specs.Persistent.{persistent, persistent_plan}
 use Rattle.dur_view.specs.declared.data.View.{View}
 use Rattle.dur_qos.specs.declared.plan.Plan.{Plan}
 use Rattle.dur_qos.specs.Good.{GoodPlan}
+use Rattle.dur_view.proofs.FullFollows.{follow-full}
 use Rattle.dur_view.proofs.PersistentPlans.{persistent-good}
 use Rattle.dur_journal.specs.Histories.{view_of, completed}
 use Rattle.dur_journal.specs.Opening.{CanComplete, IsKeptView}
@@ -21,17 +22,20 @@ use Rattle.dur_journal.specs.Reading.{IsSoundRead, history_of}
 use Rattle.dur_journal.specs.declared.reading.FileHistory.{FileHistory}
 use Rattle.dur_journal.proofs.Wholes.{history_more}
 
--- what the store keeps and the entries that are left make the history with all of them
+-- what the store keeps and the entries that are left, which follow it, make the history with all of them
 pub record IsRestoring (s : Store) (h : History) (all rest : List Entry) : Type 0 where
   pub now : History
   pub keeps : Keeps s now
   pub joins : now +> rest ≡ h +> all
+  pub follow : AllFollow now rest
 
-pub restoring_start : (s : Store) (h : History) (all rest : List Entry) → rest ≡ all → Keeps s h → IsRestoring s h all rest
-restoring_start s h all rest is keeps = record { now = h; keeps = keeps; joins = ap (λ (l : List Entry). h +> l) is }
+pub restoring_start : (s : Store) (h : History) (all rest : List Entry) → rest ≡ all → Keeps s h → AllFollow h all → IsRestoring s h all rest
+restoring_start s h all rest is keeps follow = record { now = h; keeps = keeps; joins = ap (λ (l : List Entry). h +> l) is; follow = subst (AllFollow h) (sym is) follow }
 
-pub restoring_more : (old new : Store) (h : History) (all rest later : List Entry) (e : Entry) → rest ≡ e ∷ later → IsRestoring old h all rest → ((g : History) → Keeps old g → Keeps new (g ▸ e)) → IsRestoring new h all later
-restoring_more old new h all rest later e is r step = record { now = r.now ▸ e; keeps = step r.now r.keeps; joins = ap (λ (l : List Entry). r.now +> l) (sym is) ∙ r.joins }
+pub restoring_more : (old new : Store) (h : History) (all rest later : List Entry) (e : Entry) → rest ≡ e ∷ later → IsRestoring old h all rest → ((g : History) → Keeps old g → Follows g e → Keeps new (g ▸ e)) → IsRestoring new h all later
+restoring_more old new h all rest later e is r step =
+    let follow = subst (AllFollow r.now) is r.follow in
+    record { now = r.now ▸ e; keeps = step r.now r.keeps follow.0; joins = ap (λ (l : List Entry). r.now +> l) (sym is) ∙ r.joins; follow = follow.1 }
 
 pub restored_all : (s : Store) (h : History) (all rest : List Entry) → rest ≡ [] → IsRestoring s h all rest → Keeps s (h +> all)
 restored_all s h all rest none r = subst (λ (g : History). Keeps s g) (ap (λ (l : List Entry). r.now +> l) (sym none) ∙ r.joins) r.keeps
@@ -56,10 +60,11 @@ last_told (Err e) h g last told last_is same = tt
 -- ---- the view that is kept
 
 -- the store over the completed view keeps the completed history
-pub part_keeps : (plan part : Plan) (v : View) (es : List Entry) (first s : Store) → part ≡ persistent_plan plan → Keeps first (Start (full part v)) → ((h : History) → Keeps first h → Keeps s (h +> es))
-    → Keeps s (Start (full (persistent_plan plan) v) +> es)
-part_keeps plan part v es first s is keeps restores =
+pub part_keeps : (plan part : Plan) (v : View) (es : List Entry) (first s : Store) → CanComplete plan v es → part ≡ persistent_plan plan → Keeps first (Start (full part v))
+    → ((h : History) → Keeps first h → AllFollow h es → Keeps s (h +> es)) → Keeps s (Start (full (persistent_plan plan) v) +> es)
+part_keeps plan part v es first s can is keeps restores =
     restores (Start (full (persistent_plan plan) v)) (subst (λ (p : Plan). Keeps first (Start (full p v))) is keeps)
+    (follow-full (persistent_plan plan) v es can.base.sound can.follow)
 
 pub part_good : (plan part : Plan) → part ≡ persistent_plan plan → GoodPlan plan → GoodPlan part
 part_good plan part is good = subst GoodPlan (sym is) (persistent-good plan good)

@@ -4,7 +4,7 @@ ghost use Rattle.std.specs.Prelude.{◌≡◌, ◌≤◌, ◌^◌, [], All, IfOk
 ghost use Rattle.dur_base.specs.declared.entry.Entry.{Entry};
 ghost use Rattle.dur_qos.specs.Good.{GoodPlan};
 ghost use Rattle.std.specs.List.{AllByRecursion};
-ghost use Rattle.dur_view.specs.History.{History, Start, ◌+>◌, HasShortNumber};
+ghost use Rattle.dur_view.specs.History.{History, Start, ◌+>◌, HasShortNumber, AllFollow};
 ghost use Rattle.dur_view.specs.Full.{nothing};
 ghost use Rattle.dur_view.specs.Persistent.{is_persistent, passes_at, persistent_plan, place_among, reader_line_among, writer_line_among};
 ghost use Rattle.dur_store.specs.Keeps.{Keeps};
@@ -126,10 +126,11 @@ fn part_of(alloc: Global, plan: &Plan) -> Result<Plan, OutOfMemory>
     })
 }
 
-/// The store with these entries after all others.
+/// The store with these entries, which follow, after all others.
 fn restored(store: Store, entries: List<Entry>) -> Result<Store, OutOfMemory>
     requires { AllByRecursion HasShortNumber entries }
-    ensures { IfOk result (λ s. (h : History) → Keeps store h → Keeps s (h +> entries)) }
+    ensures { IfOk result (λ s. (h : History) → Keeps store h → AllFollow h entries
+        → Keeps s (h +> entries)) }
 {
     let mut store = store;
     for entry in entries.into_vec() {

@@ -1,2 +1,10 @@
-mod ViewsKept
 pub mod Nothing
+mod Places
+mod Lists
+mod Writers
+mod Wholes
+mod Takings
+mod Steps
+mod Entries
+mod Counted
+mod Refusing

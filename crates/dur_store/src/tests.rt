@@ -20,6 +20,10 @@ const W: Guid = Guid([
     0xa1, 0xa1, 0xa1, 0xa1, 0xa1, 0xa1, 0xa1, 0xa1, 0xa1, 0xa1, 0xa1, 0xa1, 0, 0, 1, 2,
 ]);
 
+const V: Guid = Guid([
+    0xb2, 0xb2, 0xb2, 0xb2, 0xb2, 0xb2, 0xb2, 0xb2, 0xb2, 0xb2, 0xb2, 0xb2, 0, 0, 1, 2,
+]);
+
 const AA: Key = Key([0xaa; 16]);
 
 const BB: Key = Key([0xbb; 16]);
@@ -34,13 +38,15 @@ fn read(alloc: Global, text: &[u8]) -> Result<Plan, PlanFault>
     }
 }
 
-// A store of the topic with these settings behind its name, with one writer.
+// A store of the topic with these settings behind its name, with two writers.
 fn store(alloc: Global, topic: &[u8]) -> Option<Store> {
     let mut text = Vec::new(alloc);
     text.extend_from_slice(b"prefix 0102030405060708\ntopic T ")
         .ok()?;
     text.extend_from_slice(topic).ok()?;
-    text.extend_from_slice(b"\nwriter a1a1a1a1a1a1a1a1a1a1a1a100000102 T -\nend\n")
+    text.extend_from_slice(b"\nwriter a1a1a1a1a1a1a1a1a1a1a1a100000102 T -")
+        .ok()?;
+    text.extend_from_slice(b"\nwriter b2b2b2b2b2b2b2b2b2b2b2b200000102 T -\nend\n")
         .ok()?;
     match read(alloc, text.as_slice()) {
         Ok(plan) => over(alloc, &plan),
@@ -99,6 +105,7 @@ enum Step {
     End(Key),
     Of(Number),
     Skip,
+    Lose,
 }
 
 fn sample(step: Step) -> Sample {
@@ -106,7 +113,7 @@ fn sample(step: Step) -> Sample {
         Step::Write(key) | Step::Short(key) => (key, Act::Write, SetMark::NoSet),
         Step::End(key) => (key, Act::DisposeUnregister, SetMark::NoSet),
         Step::Of(first) => (AA, Act::Write, SetMark::Of(first)),
-        Step::Skip => (AA, Act::Write, SetMark::NoSet),
+        Step::Skip | Step::Lose => (AA, Act::Write, SetMark::NoSet),
     };
     let short = matches!(&step, Step::Short(_));
     Sample {
@@ -129,24 +136,25 @@ fn sample(step: Step) -> Sample {
     }
 }
 
-fn entry(moment: u64, number: Number, step: Step) -> Entry
+fn entry(moment: u64, writer: Guid, number: Number, step: Step) -> Entry
     requires { number < 2 ^ 63 - 1 }
     ensures { HasShortNumber result }
 {
     let moment = Ticks(moment);
-    if matches!(&step, Step::Skip) {
-        return Entry::Skip {
+    match step {
+        Step::Skip => Entry::Skip {
             moment,
-            writer: W,
+            writer,
             from: number,
             to: number,
-        };
-    }
-    Entry::Took {
-        moment,
-        writer: W,
-        number,
-        sample: sample(step),
+        },
+        Step::Lose => Entry::Lost { moment, writer },
+        _ => Entry::Took {
+            moment,
+            writer,
+            number,
+            sample: sample(step),
+        },
     }
 }
 
@@ -160,11 +168,25 @@ fn admit(
 ) -> Option<Refuse>
     requires { number < 2 ^ 63 - 1 }
 {
+    admit_of(alloc, store, moment, W, number, step)
+}
+
+// The same of a writer.
+fn admit_of(
+    alloc: Global,
+    store: &mut Store,
+    moment: u64,
+    writer: Guid,
+    number: Number,
+    step: Step,
+) -> Option<Refuse>
+    requires { number < 2 ^ 63 - 1 }
+{
     match store.reserve() {
         Ok(()) => {}
         Err(_) => return Some(Refuse::OutOfMemory),
     }
-    match store.admit(alloc, entry(moment, number, step)) {
+    match store.admit(alloc, entry(moment, writer, number, step)) {
         Ok(()) => None,
         Err((refuse, _)) => Some(refuse),
     }
@@ -233,7 +255,11 @@ fn a_set_takes_effect_whole_or_never(rt: HostRuntime) {
     assert!(rt; lists(alloc, &whole, 5, &[1, 2, 3]));
     let mut broken = store(alloc, b"transient hash 10 - - - - 0").expect(&rt, "a store");
     assert!(rt; admit(alloc, &mut broken, 5, one, Step::Of(one)).is_none());
-    assert!(rt; broken.restore(entry(5, Number::at(2), Step::Skip)).is_ok());
+    assert!(rt;
+        broken
+            .restore(entry(5, W, Number::at(2), Step::Skip))
+            .is_ok()
+    );
     assert!(rt; admit(alloc, &mut broken, 5, Number::at(3), Step::Write(AA)).is_none());
     assert!(rt; lists(alloc, &broken, 5, &[3]));
 }
@@ -254,6 +280,31 @@ fn held_members_and_those_of_a_closer_count(rt: HostRuntime) {
     // Without that number the set is broken, and stays away.
     assert!(rt; admit(alloc, &mut closed, 5, Number::at(3), Step::Skip).is_none());
     assert!(rt; lists(alloc, &closed, 5, &[]));
+}
+
+#[test]
+fn members_of_all_writers_of_a_topic_count(rt: HostRuntime) {
+    let alloc = rt.alloc();
+    let one = Number::at(1);
+    let mut held = store(alloc, b"transient hash 10 - - - 1 0").expect(&rt, "a store");
+    assert!(rt; admit(alloc, &mut held, 5, one, Step::Of(one)).is_none());
+    let other = admit_of(alloc, &mut held, 5, V, one, Step::Of(one));
+    assert!(rt; other == Some(Refuse::Held) && held.next(V).get() == 1);
+    // A lost writer holds none, and what it held never takes effect.
+    assert!(rt; admit(alloc, &mut held, 5, one, Step::Lose).is_none());
+    assert!(rt; admit_of(alloc, &mut held, 5, V, one, Step::Of(one)).is_none());
+    assert!(rt; admit(alloc, &mut held, 5, Number::at(2), Step::Write(AA)).is_none());
+    assert!(rt; lists(alloc, &held, 5, &[2]));
+}
+
+#[test]
+fn an_instance_keeps_no_more_samples_than_it_may(rt: HostRuntime) {
+    let alloc = rt.alloc();
+    let mut store = store(alloc, b"transient hash all - - 1 - 0").expect(&rt, "a store");
+    assert!(rt; admit(alloc, &mut store, 5, Number::at(1), Step::Write(AA)).is_none());
+    assert!(rt; admit(alloc, &mut store, 5, Number::at(2), Step::Write(BB)).is_none());
+    let third = admit_of(alloc, &mut store, 5, V, Number::at(1), Step::Write(AA));
+    assert!(rt; third == Some(Refuse::PerInstance) && lists(alloc, &store, 5, &[1, 2]));
 }
 
 #[test]

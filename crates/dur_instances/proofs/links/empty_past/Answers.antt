@@ -1,7 +1,7 @@
 use Rattle.std.proofs.Common.{None, List, sym, ap, ◌∙◌}
 use Rattle.dur_instances.specs.declared.links.Place.{Place}
 use Rattle.dur_instances.specs.Places.{past_at}
-use Rattle.dur_instances.proofs.Chains.{Stepped, stepped, past-none, all-left}
+use Rattle.dur_instances.proofs.Chains.{stepped, past-none, all-left}
 use Rattle.dur_instances.proofs.links.empty_past.Goals as goal
 
 pub loop-place-smaller : goal.loop-place-smaller

@@ -1,7 +1,6 @@
 use Rattle.std.proofs.Common.{◌≡◌, ℕ, ◌+◌, ◌<◌, Bool, List, cond, length, drop, rules, sym, ap, ◌∙◌, arith}
 use Rattle.dur_instances.specs.declared.changes.Change.{Change}
 use Rattle.dur_instances.specs.Places.{kept_in}
-use Rattle.dur_instances.specs.Would.{is_left_at}
 use Rattle.dur_instances.proofs.PlaceLists.{kept-at, left_in, left-with}
 use Rattle.dur_instances.proofs.would.kept_left.Goals as goal
 use Rattle.dur_instances.proofs.would.kept_left.Goals.{then-is_left_at, else-is_left_at}

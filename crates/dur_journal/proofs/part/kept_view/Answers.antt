@@ -15,13 +15,13 @@ restored-requires c = follow_short (Start c.args.start) c.args.entries c.require
 pub view-requires : goal.view-requires
 view-requires c =
     let h = Start (full (persistent_plan c.args.plan.now) c.args.start) +> c.args.entries in
-    let keeps = part_keeps c.args.plan.now c.in-Ok.part c.args.start c.args.entries c.in-Ok-of_view.first c.in-Ok-restored.store c.in-Ok.ensures c.in-Ok-of_view.ensures c.in-Ok-restored.ensures in
+    let keeps = part_keeps c.args.plan.now c.in-Ok.part c.args.start c.args.entries c.in-Ok-of_view.first c.in-Ok-restored.store c.requires c.in-Ok.ensures c.in-Ok-of_view.ensures c.in-Ok-restored.ensures in
     let last = c.last-last.ensures h keeps in
     (h, keeps, (completes c.args.plan.now c.args.start c.args.entries c.requires).history, omega (arith, last))
 
 pub returns-clause-view : goal.returns-clause-view
 returns-clause-view c =
-    let keeps = part_keeps c.args.plan.now c.in-Ok.part c.args.start c.args.entries c.in-Ok-of_view.first c.in-Ok-restored.store c.in-Ok.ensures c.in-Ok-of_view.ensures c.in-Ok-restored.ensures in
+    let keeps = part_keeps c.args.plan.now c.in-Ok.part c.args.start c.args.entries c.in-Ok-of_view.first c.in-Ok-restored.store c.requires c.in-Ok.ensures c.in-Ok-of_view.ensures c.in-Ok-restored.ensures in
     kept_told c.args.plan.now c.args.start c.args.entries c.in-Ok-restored.store c.last-last.result c.view.result c.requires keeps c.last-last.ensures c.view.ensures
 
 pub returns-clause-kept : goal.returns-clause-kept

@@ -11,10 +11,10 @@ use Rattle.dur_instances.specs.Trimmed.{Trimmed, begun, row_at}
 use Rattle.dur_instances.specs.Stands.{Stands}
 use Rattle.std.specs.Prelude.{not, filter}
 use Rattle.dur_instances.specs.declared.changes.Change.{Change}
-use Rattle.dur_instances.specs.Layout.{places, count_in, count_after, with_cell, is_deep_in}
+use Rattle.dur_instances.specs.Layout.{places, count_in, count_after, with_cell, is_deep_in, InOrder}
 use Rattle.dur_instances.specs.Due.{due_of, due_with, due_by}
 use Rattle.dur_instances.specs.contracts.instances.Instances.{the_view}
-use Rattle.dur_instances.proofs.Applied.{After, falls-added, applied}
+use Rattle.dur_instances.proofs.Applied.{After, order-after, falls-added, applied}
 use Rattle.dur_instances.proofs.Displaced.{past-deep, sinks-falls}
 use Rattle.dur_instances.proofs.BeforeDue.{after-change}
 use Rattle.dur_instances.proofs.CellLists.{laid-order}
@@ -86,3 +86,6 @@ add-requires-clause-sinks c =
     sinks-falls c.self.inside.cells.items record { key = x.key; disposed = disposes x.act; quiet = c.quiet_from-quiet.result; count = n } c.self.inside.topic.depth (c.self.inside.changes.items ++ new ∷ [])
     (falls-added c.self.inside.topic c.self.inside.cells.items c.self.inside.registered.items c.self.inside.changes.items c.self.invariant.0 c.args.moment c.args.writer c.args.guid c.args.number c.args.arrived x c.requires.change c.quiet_from-quiet.result n
     count-is (search rules))
+
+pub quiet_from-quiet-requires : goal.quiet_from-quiet-requires
+quiet_from-quiet-requires c = subst InOrder (sym (c.deref.ensures.value ∙ c.enroll.ensures.items)) (order-after c.args.sample.act record { key = c.args.sample.key; by = c.args.writer } c.self.inside.registered.items c.self.invariant.0.in_order)

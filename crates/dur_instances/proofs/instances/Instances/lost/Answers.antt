@@ -9,23 +9,24 @@ use Rattle.dur_instances.specs.declared.cells.Cell.{Cell}
 use Rattle.dur_instances.specs.declared.registered.Registered.{Registered}
 use Rattle.dur_instances.specs.Trimmed.{Trimmed, begun, row_at}
 use Rattle.dur_instances.specs.Stands.{Stands}
-use Rattle.dur_instances.specs.Layout.{settled}
+use Rattle.dur_instances.specs.Layout.{settled, InOrder}
+use Rattle.dur_instances.proofs.RegLists.{order-without}
 use Rattle.dur_instances.specs.Due.{due_of, due_with}
 use Rattle.dur_instances.specs.contracts.instances.Instances.{the_view}
 use Rattle.dur_instances.proofs.Applied.{After}
 use Rattle.dur_instances.proofs.BeforeDue.{after-ends}
-use Rattle.dur_instances.proofs.Settled.{Ends, settles, loses}
+use Rattle.dur_instances.proofs.Settled.{Ends, IsSettled, settled-all, settles, loses}
 use Rattle.dur_instances.proofs.instances.Instances.lost.Goals as goal
 
 after : (c : goal.After-self-1) → After c.self.inside.topic c.self.inside.cells.items c.settle.new.cells.items c.self.inside.registered.items c.leave_all.new.list.items c.self.inside.changes.items c.self.inside.changes.items (Gone c.args.moment c.args.writer)
 after c =
     let m = c.args.moment in
     let e = Gone m c.args.writer in
-    let ends = subst (λ (l : List Registered). Ends e c.self.inside.registered.items l) (sym c.leave_all.ensures.items) (loses m c.args.writer c.self.inside.registered.items c.self.invariant.0.by_place) in
+    let ends = subst (λ (l : List Registered). Ends e c.self.inside.registered.items l) (sym c.leave_all.ensures.items) (loses m c.args.writer c.self.inside.registered.items c.self.invariant.0.in_order) in
     let awake = subst (λ (t : Trimmed). (k : Key) → is_long (row_at t.rows k).quiet (t.settings.delay * 2 ^ 32) m ≡ false) (sym c.self.view_is) c.sweep.ensures.awake in
     let cells2-is : c.settle.new.cells.items ≡ map (settled c.leave_all.new.list.items m) c.self.inside.cells.items = c.settle.ensures.items ∙ ap (λ (l : List Registered). map (settled l m) c.self.inside.cells.items) c.deref.ensures.value in
-    subst (λ (l : List Cell). After c.self.inside.topic c.self.inside.cells.items l c.self.inside.registered.items c.leave_all.new.list.items c.self.inside.changes.items c.self.inside.changes.items e) (sym cells2-is)
-    (settles c.self.inside.topic c.self.inside.cells.items c.self.inside.registered.items c.leave_all.new.list.items c.self.inside.changes.items c.self.invariant.0 e ends awake)
+    let look = subst (λ (l : List Cell). IsSettled c.leave_all.new.list.items m c.self.inside.cells.items l) (sym cells2-is) (settled-all c.leave_all.new.list.items m c.self.inside.cells.items) in
+    settles c.self.inside.topic c.self.inside.cells.items c.self.inside.registered.items c.leave_all.new.list.items c.self.inside.changes.items c.self.invariant.0 e ends c.settle.new.cells.items look awake
 
 -- the cells after the registrations ended
 cells-are : (c : goal.After-self-1) → c.settle.new.cells.items ≡ map (settled c.leave_all.new.list.items c.args.moment) c.self.inside.cells.items
@@ -53,3 +54,6 @@ returns-clause-stands c = λ p st.
     let step = same-step c.self.inside.last p old e (omega arith) mid in
     let new = begun (the_view record { topic = c.self.inside.topic; last = c.self.inside.last; due = c.due_with-self-inside.result; cells = c.settle.new.cells; registered = c.leave_all.new.list; changes = c.self.inside.changes }) in
     subst (λ (z : ℕ). SameFrom z (p ▹ e) new) is (same-trans c.args.moment (p ▹ e) (old ▹ e) new step (after c).same)
+
+pub settle-requires : goal.settle-requires
+settle-requires c = subst InOrder (sym (c.deref.ensures.value ∙ c.leave_all.ensures.items)) (order-without _ c.self.inside.registered.items c.self.invariant.0.in_order)

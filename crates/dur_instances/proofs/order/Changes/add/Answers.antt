@@ -1,4 +1,4 @@
-use Rattle.std.proofs.Common.{◌≡◌, Some, List, [], ◌∷◌, ◌++◌, not, ◌&&◌, filter, sym, ap, ◌∙◌, subst, arith}
+use Rattle.std.proofs.Common.{◌≡◌, List, [], ◌∷◌, ◌++◌, not, ◌&&◌, filter, sym, ap, ◌∙◌, subst, arith}
 use Rattle.dur_instances.specs.declared.changes.Change.{Change}
 use Rattle.dur_view.specs.Identities.{Key}
 use Rattle.dur_instances.specs.Layout.{is_change_of}

@@ -1,4 +1,4 @@
-use Rattle.std.proofs.Common.{[], ◌∷◌, ◌++◌, ap, ◌∙◌}
+use Rattle.std.proofs.Common.{[], ◌∷◌, ◌++◌, ◌∙◌}
 use Rattle.dur_instances.proofs.PlaceLists.{none-past, none-sinks}
 use Rattle.dur_instances.proofs.order.Changes.push.Goals as goal
 
