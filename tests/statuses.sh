@@ -15,12 +15,13 @@ guid='\241\241\241\241\241\241\241\241\241\241\241\241'
 cat "$plan" examples/first/capture.bin > "$folder/input"
 (cat "$plan"; printf '\0\0\0\0\0\0\0\0\0\0\344\377\0\0') > "$folder/long"
 printf 'prefix 0102030405060708\ntopic\n' > "$folder/bad_plan"
-# A capture of 200 samples of 60,000 octets, which is more than 6 MB hold.
+# A capture of 200 samples of 60,000 octets, each of an instance of its own, which is more than 6 MB hold.
 cp "$plan" "$folder/many"
 for number in {1..200}; do
     printf -v low '\\x%02x' "$number"
     printf "\5\0\0\0\0\0\0\0\0\0\254\352\0\0RTPS\2\5\0\0$guid\25\7\224\352\0\0\20\0\0\0\0\0\0\0\1\2\0\0\0\0$low\0\0\0\160\0\20\0"
-    printf '\252%.0s' {1..16}
+    printf '\252%.0s' {1..15}
+    printf "$low"
     printf '\1\0\0\0\0\1\0\0\52\0\0\0'
     head -c 60000 /dev/zero
 done >> "$folder/many"
