@@ -2,8 +2,8 @@
 # Facts per second that a hub hears, each in a datagram of its own, from 1, 100 and 4,000 writers, in order and with the
 # first of each 16 numbers of a writer missing until the others came. First GAPs, of which the store keeps each in
 # constant time: what is measured is the hub. Then 64 samples of at most four writers, and how much of that time the
-# store alone takes for the same entries. Each line of GAPs has its ratio to the
-# fastest; it ends with the status 1 where one is ten times slower than that.
+# store alone takes for the same entries. Each line of GAPs has its ratio to the fastest; it ends with the status 1 where
+# one is ten times slower than that.
 #
 # Writes a small program into a folder of its own under the system's temporary folder, with copies of the crates that
 # it stands on and of their libraries where they are proved here already, has it proved and compiled there, runs it, and
