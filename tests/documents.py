@@ -1,7 +1,8 @@
 #!/usr/bin/env python3
 """Holds the documents to the source: each clause of a standard that a comment names stands in docs/CLAUSES.md; each name
 that docs/CLAUSES.md and docs/GLOSSARY.md give, and each `function.clause` of a crate's page, stands in the source; each
-crate has a page; and each link leads to a file. Prints what does not, and ends with 1 then."""
+crate has a page; and each link, and each script that a page names, is a file. Prints what does not, and ends with 1
+then."""
 import pathlib
 import re
 import sys
@@ -74,12 +75,16 @@ def page_faults(crate):
 
 
 def dead_links():
-    """Each link of a page to a file that is not there."""
+    """Each file that a page links to, and each script that it names, which is not there."""
     pages = [*TOP.glob("*.md"), *TOP.glob("docs/*.md"), *TOP.glob("examples/*.md"), *TOP.glob("crates/*/README.md")]
     for page in pages:
-        for link in re.findall(r"\]\(([^)#]+)", page.read_text(encoding="utf-8")):
+        text = page.read_text(encoding="utf-8")
+        for link in re.findall(r"\]\(([^)#]+)", text):
             if not link.startswith("http") and not (page.parent / link).exists():
                 yield f"{page.relative_to(TOP)} links to {link}, which is not there"
+        for script in sorted(set(re.findall(r"\b(?:bench|tests|tools)/[\w/]+\.(?:sh|py)\b", text))):
+            if not (TOP / script).is_file():
+                yield f"{page.relative_to(TOP)} names {script}, which is not there"
 
 
 def main():
