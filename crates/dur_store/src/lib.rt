@@ -5,6 +5,7 @@ mod begin;
 mod events;
 mod index;
 mod limits;
+mod members;
 mod refuse;
 mod room;
 mod store;
