@@ -6,6 +6,8 @@ mod events;
 mod index;
 mod limits;
 mod members;
+#[cfg(test)]
+mod random;
 mod refuse;
 mod room;
 mod store;
