@@ -235,10 +235,11 @@ fn time_hub(rt: &HostRuntime, text: &[u8], guids: &[Guid], kind: Kind, order: Or
     Ok(if hub.counts().entries == 0 { 0 } else { nanos })
 }
 
-fn admit_all(store: &mut Store, alloc: Global, guids: &[Guid], turns: u64) {
+fn admit_all(store: &mut Store, guids: &[Guid], turns: u64) {
     for turn in 0..turns {
         for guid in guids {
-            let _admitted = store.admit(alloc, entry(*guid, turn.saturating_add(1)));
+            let _room = store.reserve();
+            let _admitted = store.admit(entry(*guid, turn.saturating_add(1)));
         }
     }
 }
@@ -249,7 +250,7 @@ fn time_store(rt: &HostRuntime, text: &[u8], guids: &[Guid], turns: u64) -> io::
         return Ok(0);
     };
     let start = Instant::now(rt)?;
-    admit_all(&mut store, rt.alloc(), guids, turns);
+    admit_all(&mut store, guids, turns);
     Ok(start.elapsed(rt)?.as_nanos().max(1))
 }
 

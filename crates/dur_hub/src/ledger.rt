@@ -1,6 +1,6 @@
 //! The store, and what of it waits to be handed out.
 
-ghost use Rattle.std.specs.Prelude.{◌≡◌, ℕ, List, [], ◌∷◌, ◌++◌, Err, OnOk, OnErr};
+ghost use Rattle.std.specs.Prelude.{◌≡◌, ℕ, List, [], ◌∷◌, ◌++◌, Err, OnOk, OnErr, IfErr};
 ghost use Rattle.dur_view.specs.declared.data.View.{View};
 ghost use Rattle.dur_store.specs.Keeps.{Keeps};
 ghost use Rattle.dur_view.specs.History.{History, Start, ◌▸◌, start, writer_of, HasShortNumber, Follows};
@@ -38,6 +38,17 @@ fn refused_for(refuse: Refuse) -> Refused
     }
 }
 
+// The store gets room for its next entry, which then needs no memory, and stands for the same history.
+fn make_room(store: &mut Store) -> Result<(), Refused>
+    ensures keeps { (h : History) → Keeps store.old h → Keeps store.new h }
+    ensures memory { IfErr result (λ refused. refused ≡ Refused.OutOfMemory) }
+{
+    match store.reserve() {
+        Ok(()) => Ok(()),
+        Err(_) => Err(Refused::OutOfMemory),
+    }
+}
+
 /// The store of all topics, and the queue of the entries of persistent ones.
 #[derive(Drop)]
 pub struct Ledger {
@@ -62,15 +73,18 @@ impl Ledger {
     /// Admits an entry, or answers the first limit that it would pass. `stored` says whether its topic is persistent.
     pub fn admit(&mut self, entry: Entry, stored: bool) -> Result<(), Refused>
         requires { HasShortNumber entry }
-        ensures ok { OnOk result ((h : History) (t d : ℕ) → LedgerAt self.old h t d → stored ≡ is_stored (start h) (writer_of entry) → Follows h entry → LedgerAt self.new (h ▸ entry) t d × (refused h entry ≡ None)) }
-        ensures err { OnErr result ((h : History) (t d : ℕ) → LedgerAt self.old h t d → LedgerAt self.new h t d) }
+        ensures ok { OnOk result ((h : History) (t d : ℕ) → LedgerAt self.old h t d
+            → stored ≡ is_stored (start h) (writer_of entry) → Follows h entry
+            → LedgerAt self.new (h ▸ entry) t d × (refused h entry ≡ None)) }
+        ensures err { OnErr result ((h : History) (t d : ℕ) → LedgerAt self.old h t d
+            → LedgerAt self.new h t d) }
         ensures limit { (limit : Limit) → result ≡ Err (Refused.Limit limit)
             → (h : History) (t d : ℕ) → LedgerAt self.old h t d → Follows h entry
             → refused h entry ≡ Some limit }
     {
-        let alloc = self.queue.alloc();
+        make_room(&mut self.store)?;
         if !stored {
-            return match self.store.admit(alloc, entry) {
+            return match self.store.admit(entry) {
                 Ok(()) => {
                     self.entries = self.entries.wrapping_add(1);
                     Ok(())
@@ -86,7 +100,7 @@ impl Ledger {
             Ok(()) => {}
             Err(_) => return Err(Refused::OutOfMemory),
         }
-        match self.store.admit(alloc, entry) {
+        match self.store.admit(entry) {
             Ok(()) => {
                 self.queue.push(copy);
                 self.entries = self.entries.wrapping_add(1);

@@ -158,6 +158,10 @@ count-none : (o : Option Instance) → unwrap_or (option_map (λ c. c.count) (op
 count-none None = refl
 count-none (Some line) = refl
 
+keys-lines : (xs : List Instance) → keys_of (map cell_of_line xs) ≡ map (λ line. line.key) xs
+keys-lines [] = refl
+keys-lines (x ∷ xs) = ap (λ l. x.key ∷ l) (keys-lines xs)
+
 module _ (v : View) (t : ℕ) (s : Topic) (sound : PassesTests v) (is-topic : slice_get v.topics t ≡ Some s) (deep : (d : ℕ) → s.depth ≡ Some d → d < 2 ^ 32) where
   abbrev p : Past
   p = Begin (part v t)
@@ -321,10 +325,6 @@ module _ (v : View) (t : ℕ) (s : Topic) (sound : PassesTests v) (is-topic : sl
   counters-of [] = tt
   counters-of (c ∷ cs) = (start-few (gap s.depth (counted c) c.ordinal), counters-of cs)
 
-  keys-lines : (xs : List Instance) → keys_of (map cell_of_line xs) ≡ map (λ line. line.key) xs
-  keys-lines [] = refl
-  keys-lines (x ∷ xs) = ap (λ l. x.key ∷ l) (keys-lines xs)
-
   unknown : (k : Key) → cell_in cells k ≡ None → places regs k ≡ []
   unknown k no_cell = regs-found k ∙ at (line_in lines k) refl
     where
@@ -428,6 +428,9 @@ module _ (v : View) (t : ℕ) (s : Topic) (sound : PassesTests v) (is-topic : sl
   changes-found = changes-are v.kept sound.keys
 
 -- as the loops have it
+pub cells-in-order : (v : View) (t : ℕ) → IsSound v → Ascending (keys_of (map cell_of_line (lines_in t v.instances)))
+cells-in-order v t sound = subst Ascending (sym (keys-lines (lines_in t v.instances))) (sound_parts v (sound-passes v sound) t).keys
+
 module _ (v : View) (t : ℕ) (s : Topic) (sound : IsSound v) (is-topic : slice_get v.topics t ≡ Some s) (deep : (d : ℕ) → s.depth ≡ Some d → d < 2 ^ 32)
     (cells : List Cell) (regs : List Registered) (changes : List Change) (is-cells : cells ≡ map cell_of_line (lines_in t v.instances)) (is-regs : regs ≡ with_lines (lines_in t v.instances) [])
     (is-changes : changes ≡ changes_in s.depth t v.instances v.kept) where

@@ -1,6 +1,6 @@
 -- What the vectors keep after registrations end tells the same as the past with that event.
 use Rattle.std.proofs.Common.{◌≡◌, ℕ, zero, suc, ◌+◌, ◌*◌, ◌^◌, ◌<◌, ◌≤◌, Bool, true, false, cond, not, ◌&&◌, ◌||◌, Option, Some, None, List, [], ◌∷◌, ◌++◌, map, length, take, drop, get_or, add-one, refl, sym, ap, ◌∙◌, subst, arith, append-nil}
-use Rattle.std.specs.Prelude.{is_some, filter, unwrap_or, option_map, slice_get, slice_set, option_and_then, min, ◌==◌}
+use Rattle.std.specs.Prelude.{is_some, filter, unwrap_or, option_map, slice_set, option_and_then, min, ◌==◌}
 use Rattle.dur_base.specs.declared.sample.Act.TheVariants.{Unregister}
 use Rattle.dur_base.specs.declared.sample.Sample.{Sample}
 use Rattle.dur_qos.specs.declared.plan.Topic.{Topic}
@@ -20,8 +20,7 @@ use Rattle.dur_instances.specs.Steps.{is_row_quiet, row_after, late_after, late_
 use Rattle.dur_instances.specs.Layout.{row_of, rows_of, late_of, lates_of, cell_in, places, InOrder, count_in, raised, settled, settled_at, quiet_in, is_one, IsLaid}
 use Rattle.dur_view.proofs.Base.{is_key-true}
 use Rattle.dur_instances.specs.Due.{purged_from, due_cells}
-use Rattle.dur_instances.proofs.KeyLists.{greater-other}
-use Rattle.dur_instances.proofs.CellLists.{row_in-cells, keys-rows, absent-cell, turned-false, AllBelow, below-rest}
+use Rattle.dur_instances.proofs.CellLists.{row_in-cells, keys-rows, absent-cell}
 use Rattle.dur_instances.specs.Layout.{keys_of}
 use Rattle.dur_instances.proofs.RegLists.{places-leave, places-leave_all, order-without}
 use Rattle.dur_instances.proofs.Follows.{RowsFollow, follows}
@@ -195,21 +194,6 @@ module _ (k : Key) (regs2 : List Registered) (m : ℕ) where
       at : (b : Bool) → cond b (Some x) (cell_in xs k) ≡ None → (cell_in xs k ≡ None → map (settled_at k regs2 m) xs ≡ xs) → cond b (settled regs2 m x) x ∷ map (settled_at k regs2 m) xs ≡ x ∷ xs
       at true is rest = absurd (cc)
       at false is rest = ap (λ l. x ∷ l) (rest is)
-
-  pub settle-there : (xs : List Cell) (i : ℕ) (c : Cell) → Ascending (keys_of xs) → AllBelow k xs i → slice_get xs i ≡ Some c → is_key c.key k ≡ true → map (settled_at k regs2 m) xs ≡ slice_set xs i (settled regs2 m c)
-  settle-there [] i c up before at own = absurd (cc)
-  settle-there (x ∷ xs) zero c up before at own =
-      let same : x ≡ c = ap (λ o. unwrap_or o c) at in
-      let own-x : is_key x.key k ≡ true = subst (λ (z : Cell). is_key z.key k ≡ true) (sym same) own in
-      let gone : cell_in xs k ≡ None = subst (λ (z : Key). cell_in xs z ≡ None) (is_key-true x.key k own-x) (absent-cell x.key xs up.0) in
-      ap (λ b. cond b (settled regs2 m x) x ∷ map (settled_at k regs2 m) xs) own-x ∙ ap (λ l. settled regs2 m x ∷ l) (settle-none xs gone) ∙ ap (λ (z : Cell). settled regs2 m z ∷ xs) same
-  settle-there (x ∷ xs) (suc i) c up before at own =
-      let other : is_key x.key k ≡ false = turned-false k x.key (greater-other k x.key (before 0 x (omega arith) refl)) in
-      ap (λ b. cond b (settled regs2 m x) x ∷ map (settled_at k regs2 m) xs) other ∙ ap (λ l. x ∷ l) (settle-there xs i c up.1 (below-rest k x xs i before) at own)
-
-  pub quiet-there : (xs : List Cell) (c : Cell) → cell_in xs k ≡ Some c → is_key c.key k ≡ true → quiet_in (map (settled_at k regs2 m) xs) k ≡ (settled regs2 m c).quiet
-  quiet-there xs c is own =
-      ap (λ o. option_and_then (λ c. c.quiet) o) (cell_in-at xs k ∙ ap (λ o. option_map (settled_at k regs2 m) o) is) ∙ ap (λ b. (cond b (settled regs2 m c) c).quiet) own
 
   -- no quiet stretch ends earlier than what falls due
   pub key-due : (longest : ℕ) (cells : List Cell) → Ascending (keys_of cells)

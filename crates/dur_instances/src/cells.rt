@@ -1,17 +1,14 @@
 //! Instances by key.
 
-ghost use Rattle.std.specs.Prelude.{◌≡◌, ◌≢◌, ℕ, ◌+◌, false, not, filter, map, ◌&&◌, is_some, None, if◌then◌else◌, ◌<◌, ◌≤◌, Some, length, option_map, unwrap_or, slice_get, vec_len, vec_capacity};
-ghost use Rattle.std.specs.Option.{option_copied};
+ghost use Rattle.std.specs.Prelude.{◌≡◌, ◌≢◌, ℕ, false, ◌<◌, ◌≤◌, Some, length, option_map, unwrap_or, slice_get};
 ghost use Rattle.std.specs.declared.cmp.Ordering.TheVariants.{Greater};
 ghost use Rattle.dur_view.specs.Sound.{Ascending};
 ghost use Rattle.dur_view.specs.Words.{is_key};
-ghost use Rattle.dur_view.specs.Fates.{key_cmp, is_long};
+ghost use Rattle.dur_view.specs.Fates.{key_cmp};
 ghost use Rattle.dur_instances.specs.declared.cells.Cell.{Cell as Item};
-ghost use Rattle.dur_instances.specs.Layout.{settled, settled_at, quiet_in, InOrder, keys_of, cell_in, with_cell, count_in, raised, count_after, is_purged_in};
+ghost use Rattle.dur_instances.specs.Layout.{keys_of, cell_in, count_in, raised, count_after, is_purged_in};
 
-use crate::changes::is_long;
-use crate::registered::{Registered, is_nobody};
-use crate::within::insert_within;
+use crate::table::Cells;
 use dur_base::{Key, Ticks};
 use std::cmp::Ordering;
 use std::marker::Model;
@@ -28,53 +25,88 @@ pub struct Cell {
     pub count: u32,
 }
 
-/// Instances in the order of their keys.
+/// Instances, seen in the order of their keys.
 #[derive(Drop)]
 pub struct Sorted<'a> {
-    cells: &'a [Cell],
+    cells: &'a Cells,
 }
 
 impl<'a> Model for Sorted<'a> {
     ghost use Rattle.std.specs.Prelude.{List};
+    ghost use Rattle.dur_instances.specs.declared.cells.Cell.{Cell as Item};
+
+    ghost Value = { List Item };
+
+    ghost view = { λ s. s.cells.now.list };
+}
+
+impl<'a> Sorted<'a> {
+    /// These instances.
+    pub fn of(cells: &'a Cells) -> Sorted<'a>
+        ensures { result ≡ cells.now.list }
+    {
+        Sorted { cells }
+    }
+
+    /// The instances, by a hash of their keys.
+    pub fn cells(&self) -> &'a Cells
+        ensures { result.now.list ≡ self.now }
+    {
+        self.cells
+    }
+}
+
+/// Instances, and a list of them in the order of their keys.
+#[derive(Drop)]
+pub struct Listed<'a> {
+    cells: &'a Cells,
+    list: &'a [Cell],
+}
+
+impl<'a> Model for Listed<'a> {
+    ghost use Rattle.std.specs.Prelude.{◌≡◌, List};
     ghost use Rattle.dur_view.specs.Sound.{Ascending};
     ghost use Rattle.dur_instances.specs.declared.cells.Cell.{Cell as Item};
     ghost use Rattle.dur_instances.specs.Layout.{keys_of};
 
     ghost Value = { List Item };
 
-    ghost view = { λ s. s.cells.now };
+    ghost view = { λ s. s.list.now };
 
-    ghost invariant = { λ s. Ascending (keys_of s.cells.now) };
+    ghost invariant = { λ s. (s.cells.now.list ≡ s.list.now) × Ascending (keys_of s.list.now) };
 }
 
-impl<'a> Sorted<'a> {
-    /// These instances, which stand in the order of their keys.
-    pub fn of(cells: &'a [Cell]) -> Sorted<'a>
-        requires { Ascending (keys_of cells.now) }
-        ensures { result ≡ cells.now }
+impl<'a> Listed<'a> {
+    /// These instances, and the list of them.
+    pub fn of(cells: &'a Cells, list: &'a [Cell]) -> Listed<'a>
+        requires list { cells.now.list ≡ list.now }
+        requires order { Ascending (keys_of list.now) }
+        ensures { result ≡ list.now }
     {
-        Sorted { cells }
+        Listed { cells, list }
     }
 
-    /// The instances.
+    /// The list of the instances.
     pub fn as_slice(&self) -> &'a [Cell]
         ensures value { result.now ≡ self.now }
         ensures order { Ascending (keys_of self.now) }
     {
-        self.cells
+        self.list
+    }
+
+    /// The instances without the list.
+    pub fn sorted(&self) -> Sorted<'a>
+        ensures { result ≡ self.now }
+    {
+        Sorted::of(self.cells)
     }
 }
 
 /// The instance of the key.
-pub fn find<'a>(cells: &Sorted<'a>, key: Key) -> Option<&'a Cell>
-    ensures { option_copied result ≡ cell_in cells.now key }
+pub fn find(cells: &Sorted, key: Key) -> Option<Cell>
+    ensures { result ≡ cell_in cells.now key }
 {
-    let cells = cells.as_slice();
-    let at = place_of(cells, key);
-    match cells.get(at) {
-        Some(cell) => if cell.key == key { Some(cell) } else { None },
-        None => None,
-    }
+    cells.cells().find(key)
 }
 
 /// The place at which the key's instance stands or belongs.
@@ -107,30 +139,11 @@ pub fn is_at(cells: &[Cell], at: usize, key: Key) -> bool
     }
 }
 
-/// Puts an instance in the place of its key's.
-pub fn put(cells: &mut Vec<Cell>, cell: Cell)
-    requires room { vec_len cells.old < vec_capacity cells.old }
-    requires order { Ascending (keys_of cells.old.items) }
-    ensures items { cells.new.items ≡ with_cell cell cells.old.items }
-    ensures len { vec_len cells.new ≤ vec_len cells.old + 1 }
-    ensures capacity { vec_capacity cells.old ≤ vec_capacity cells.new }
-{
-    let at = place_of(cells, cell.key);
-    if is_at(cells, at, cell.key) {
-        cells[at] = cell;
-    } else {
-        insert_within(cells, at, cell);
-    }
-}
-
 /// The counter of the key's instance, or 0.
 pub fn count_of(cells: &Sorted, key: Key) -> u32
     ensures { result ≡ count_in cells.now key }
 {
-    match find(cells, key) {
-        None => 0,
-        Some(cell) => cell.count,
-    }
+    cells.cells().count_of(key)
 }
 
 /// How often a counter was raised from `a` to `b`.
@@ -154,76 +167,5 @@ pub fn count_after(depth: Option<u32>, count: u32) -> u32
 pub fn is_purged(cells: &Sorted, longest: u64, now: Ticks, key: Key) -> bool
     ensures { result ≡ is_purged_in cells.now longest now key }
 {
-    match find(cells, key) {
-        None => false,
-        Some(cell) => is_long(cell.quiet, longest, now),
-    }
-}
-
-/// Forgets the instances that are purged at the moment.
-pub fn sweep(cells: &mut Vec<Cell>, longest: u64, now: Ticks)
-    ensures items { cells.new.items ≡ filter (λ c. not (is_long c.quiet longest now)) cells.old.items }
-    ensures len { vec_len cells.new ≤ vec_len cells.old }
-    ensures capacity { vec_capacity cells.new ≡ vec_capacity cells.old }
-{
-    cells.retain(|c| !is_long(c.quiet, longest, now));
-}
-
-fn settled(cell: &Cell, nobody: bool, moment: Ticks) -> Option<Ticks>
-    ensures { result ≡ (if cell.now.disposed && nobody then (if is_some cell.now.quiet then cell.now.quiet else Some moment) else None) }
-{
-    if !cell.disposed || !nobody {
-        return None;
-    }
-    match cell.quiet {
-        Some(since) => Some(since),
-        None => Some(moment),
-    }
-}
-
-/// Begins the quiet stretches of the instances that have become quiet at the moment, for want of registered writers.
-pub fn settle(cells: &mut Vec<Cell>, list: &[Registered], moment: Ticks)
-    requires { InOrder list.now }
-    ensures items { cells.new.items ≡ map (settled list.now moment) cells.old.items }
-    ensures len { vec_len cells.new ≡ vec_len cells.old }
-    ensures capacity { vec_capacity cells.new ≡ vec_capacity cells.old }
-{
-    for at in 0..cells.len() {
-        let cell = &mut cells[at];
-        let quiet = settled(cell, is_nobody(list, cell.key), moment);
-        cell.quiet = quiet;
-    }
-}
-
-// Begins the quiet stretch of the instance, if it has become quiet, and gives since when it is quiet.
-fn settle_cell(cell: &mut Cell, nobody: bool, moment: Ticks) -> Option<Ticks>
-    ensures cell { cell.new ≡ record cell.old { quiet = result } }
-    ensures quiet { result ≡ (if cell.old.disposed && nobody then (if is_some cell.old.quiet then cell.old.quiet else Some moment) else None) }
-{
-    cell.quiet = settled(cell, nobody, moment);
-    cell.quiet
-}
-
-/// Begins the quiet stretch of the key's instance, if it has become quiet at the moment for want of registered writers,
-/// and gives since when it is quiet.
-pub fn settle_one(
-    cells: &mut Vec<Cell>,
-    list: &[Registered],
-    key: Key,
-    moment: Ticks,
-) -> Option<Ticks>
-    requires order { Ascending (keys_of cells.old.items) }
-    requires registered { InOrder list.now }
-    ensures items { cells.new.items ≡ map (settled_at key list.now moment) cells.old.items }
-    ensures quiet { result ≡ quiet_in cells.new.items key }
-    ensures len { vec_len cells.new ≡ vec_len cells.old }
-    ensures capacity { vec_capacity cells.new ≡ vec_capacity cells.old }
-{
-    let at = place_of(cells, key);
-    if is_at(cells, at, key) {
-        let nobody = is_nobody(list, key);
-        settle_cell(&mut cells[at], nobody, moment)
-    } else {
-        None
-    }
+    cells.cells().is_purged(longest, now, key)
 }

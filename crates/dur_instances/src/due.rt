@@ -2,11 +2,11 @@
 
 ghost use Rattle.std.specs.Prelude.{◌≡◌, min, nat_lt};
 ghost use Rattle.dur_instances.specs.Places.{kept_in};
-ghost use Rattle.dur_instances.specs.Due.{due_at, purged_from, expired_from, due_cells, due_changes, due_of, due_with, due_by};
+ghost use Rattle.dur_instances.specs.Due.{due_at, purged_from, expired_from, due_changes, due_of, due_with, due_by};
 
-use crate::cells::Cell;
 use crate::changes::Change;
 use crate::links::Place;
+use crate::table::Cells;
 use dur_base::{Sample, Ticks};
 
 /// Whether a moment comes before another.
@@ -16,14 +16,15 @@ pub fn is_before(a: Ticks, b: Ticks) -> bool
     a.0 < b.0
 }
 
-fn earlier(a: u64, b: u64) -> u64
+/// The earlier of two moments.
+pub fn earlier(a: u64, b: u64) -> u64
     ensures { result ≡ min a b }
 {
     if a <= b { a } else { b }
 }
 
-// The first moment at which the instance is purged, or the last moment.
-fn purged_from(longest: u64, quiet: Option<Ticks>) -> u64
+/// The first moment at which the instance is purged, or the last moment.
+pub fn purged_from(longest: u64, quiet: Option<Ticks>) -> u64
     ensures { result ≡ purged_from longest quiet }
 {
     match quiet {
@@ -40,16 +41,6 @@ fn expired_from(lifespan: Option<Ticks>, stamp: Ticks) -> u64
         None => u64::MAX,
         Some(lifespan) => stamp.0.saturating_add(lifespan.0),
     }
-}
-
-fn due_cells(longest: u64, cells: &[Cell]) -> u64
-    ensures { result ≡ due_cells longest cells.now }
-{
-    let mut due = u64::MAX;
-    for cell in cells {
-        due = earlier(due, purged_from(longest, cell.quiet));
-    }
-    due
 }
 
 // The first moment at which the change that is kept there is expired, or the last moment.
@@ -87,8 +78,8 @@ pub fn due_by(sample: &Sample, due: Ticks) -> Ticks
 }
 
 /// The least moment at which an instance is purged or a change expires.
-pub fn due_of(longest: u64, cells: &[Cell], places: &[Place]) -> Ticks
-    ensures { result ≡ due_of longest cells.now (kept_in places.now) }
+pub fn due_of(longest: u64, cells: &Cells, places: &[Place]) -> Ticks
+    ensures { result ≡ due_of longest cells.now.list (kept_in places.now) }
 {
-    Ticks(earlier(due_cells(longest, cells), due_changes(places)))
+    Ticks(earlier(cells.due(longest), due_changes(places)))
 }

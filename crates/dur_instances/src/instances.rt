@@ -19,7 +19,7 @@ ghost use Rattle.dur_instances.specs.Stands.{Stands};
 ghost use Rattle.dur_instances.specs.Kept.{NoneIsOver};
 ghost use Rattle.dur_instances.specs.Would.{TakeEffect};
 
-use crate::cells::{self, Cell, Sorted, count_after, count_of, put, settle, settle_one};
+use crate::cells::{Cell, Listed, Sorted, count_after};
 use crate::changes::Change;
 use crate::due::{due_by, due_of, due_with, is_before};
 use crate::from_view::{cells_of, changes_of, registered_of};
@@ -27,6 +27,7 @@ use crate::lines::{kept_over, lines_over};
 use crate::listing::entitled_over;
 use crate::order::Changes;
 use crate::registered::{Registered, enroll, is_nobody, leave, leave_all};
+use crate::table::Cells;
 use crate::would::would_over;
 use dur_base::{Act, Guid, Key, List, Number, OutOfMemory, Sample, Ticks};
 use dur_qos::Topic;
@@ -40,7 +41,7 @@ pub struct Instances {
     topic: Topic,
     last: Ticks,
     due: Ticks,
-    cells: Vec<Cell>,
+    cells: Cells,
     registered: Vec<Registered>,
     changes: Changes,
 }
@@ -55,9 +56,9 @@ impl Model for Instances {
 
     ghost coded = { trimmed_code };
 
-    ghost view = { λ s. record { settings = s.topic; last = s.last; rows = rows_of s.cells.items s.registered.items; kept = lates_of s.cells.items s.changes.items; room = min (vec_capacity s.cells - vec_len s.cells) (min (vec_capacity s.registered - vec_len s.registered) s.changes.room) } };
+    ghost view = { λ s. record { settings = s.topic; last = s.last; rows = rows_of s.cells.list s.registered.items; kept = lates_of s.cells.list s.changes.items; room = min s.cells.room (min (vec_capacity s.registered - vec_len s.registered) s.changes.room) } };
 
-    ghost invariant = { λ s. IsLaid s.topic s.cells.items s.registered.items s.changes.items × (s.due ≤ due_of (s.topic.delay * 2 ^ 32) s.cells.items s.changes.items) };
+    ghost invariant = { λ s. IsLaid s.topic s.cells.list s.registered.items s.changes.items × (s.due ≤ due_of (s.topic.delay * 2 ^ 32) s.cells.list s.changes.items) };
 }
 
 impl Instances {
@@ -69,7 +70,7 @@ impl Instances {
             topic: topic.copy(),
             last: Ticks(0),
             due: Ticks(u64::MAX),
-            cells: Vec::new(alloc),
+            cells: Cells::new(alloc),
             registered: Vec::new(alloc),
             changes: Changes::new(alloc),
         }
@@ -88,7 +89,8 @@ impl Instances {
         ensures stands { IfOk result (λ i. Stands i (Begin (part view.now at))) }
     {
         let lines = view.instances.as_slice();
-        let cells = cells_of(alloc, at, lines)?;
+        let list = cells_of(alloc, at, lines)?;
+        let cells = Cells::of_list(alloc, &list)?;
         let registered = registered_of(alloc, at, lines)?;
         let changes = changes_of(alloc, topic.depth, at, lines, view.kept.as_slice())?;
         let longest = topic.delay as u64 * 4_294_967_296;
@@ -117,10 +119,7 @@ impl Instances {
         ensures stays { self.old.room ≤ self.new.room }
         ensures rest { self.new ≡ record self.old { room = self.new.room } }
     {
-        match self.cells.reserve(more) {
-            Ok(()) => {}
-            Err(_) => return Err(OutOfMemory),
-        }
+        self.cells.reserve(more)?;
         match self.registered.reserve(more) {
             Ok(()) => {}
             Err(_) => return Err(OutOfMemory),
@@ -145,7 +144,7 @@ impl Instances {
         let longest = self.topic.delay as u64 * 4_294_967_296;
         self.changes
             .sweep(&Sorted::of(&self.cells), longest, moment);
-        cells::sweep(&mut self.cells, longest, moment);
+        self.cells.sweep(longest, moment);
         self.due = due_of(longest, &self.cells, self.changes.places());
         self.last = moment;
     }
@@ -178,14 +177,14 @@ impl Instances {
         let quiet = quiet_from(disposed, &self.registered, key, moment);
         let longest = self.topic.delay as u64 * 4_294_967_296;
         let due = due_with(longest, &quiet, due);
-        let count = count_after(depth, count_of(&Sorted::of(&self.cells), key));
+        let count = count_after(depth, self.cells.count_of(key));
         let cell = Cell {
             key,
             disposed,
             quiet,
             count,
         };
-        put(&mut self.cells, cell);
+        self.cells.put(cell);
         let change = Change {
             at: count,
             writer: guid,
@@ -207,7 +206,7 @@ impl Instances {
     {
         self.sweep(moment);
         leave(&mut self.registered, &Registered { key, by: writer });
-        let quiet = settle_one(&mut self.cells, &self.registered, key, moment);
+        let quiet = self.cells.settle_one(&self.registered, key, moment);
         let longest = self.topic.delay as u64 * 4_294_967_296;
         self.due = due_with(longest, &quiet, self.due);
     }
@@ -235,7 +234,7 @@ impl Instances {
     {
         self.sweep(moment);
         leave_all(&mut self.registered, writer);
-        settle(&mut self.cells, &self.registered, moment);
+        self.cells.settle(&self.registered, moment);
         let longest = self.topic.delay as u64 * 4_294_967_296;
         self.due = due_with(longest, &Some(moment), self.due);
     }
@@ -277,11 +276,12 @@ impl Instances {
     {
         let longest = self.topic.delay as u64 * 4_294_967_296;
         let depth = self.topic.depth;
+        let list = self.cells.listed(alloc)?;
         let lines = lines_over(
             alloc,
             at,
             depth,
-            &Sorted::of(&self.cells),
+            &Listed::of(&self.cells, &list),
             &self.registered,
             self.changes.places(),
             longest,
@@ -297,10 +297,11 @@ impl Instances {
     {
         let longest = self.topic.delay as u64 * 4_294_967_296;
         let depth = self.topic.depth;
+        let list = self.cells.listed(alloc)?;
         let kept = kept_over(
             alloc,
             depth,
-            &Sorted::of(&self.cells),
+            &Listed::of(&self.cells, &list),
             self.changes.places(),
             longest,
             moment,

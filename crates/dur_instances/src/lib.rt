@@ -11,6 +11,7 @@ mod links;
 mod listing;
 mod order;
 mod registered;
+mod table;
 mod tallies;
 mod within;
 mod would;

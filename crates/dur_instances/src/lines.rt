@@ -8,7 +8,7 @@ ghost use Rattle.dur_instances.specs.Layout.{is_gone_in, left_of, cell_in, shown
 ghost use Rattle.dur_instances.specs.Places.{kept_in};
 ghost use Rattle.dur_instances.specs.Listing.{line_told, kept_told, tallies_of, spots_of};
 
-use crate::cells::{Cell, Sorted, place_of, raised};
+use crate::cells::{Cell, Listed, place_of, raised};
 use crate::changes::{Change, is_long};
 use crate::links::Place;
 use crate::registered::{Registered, places_of};
@@ -56,7 +56,7 @@ pub fn lines_over(
     alloc: Global,
     topic: u32,
     depth: Option<u32>,
-    cells: &Sorted,
+    cells: &Listed,
     list: &[Registered],
     places: &[Place],
     longest: u64,
@@ -116,7 +116,7 @@ fn kept_of(
 fn show(
     list: &mut List<Kept>,
     depth: Option<u32>,
-    cells: &Sorted,
+    cells: &Listed,
     spots: &[usize],
     all: &[Tally],
     before: &[Tally],
@@ -146,7 +146,7 @@ fn show(
 pub fn kept_over(
     alloc: Global,
     depth: Option<u32>,
-    cells: &Sorted,
+    cells: &Listed,
     places: &[Place],
     longest: u64,
     now: Ticks,
@@ -159,7 +159,7 @@ pub fn kept_over(
     let mut before = blank(alloc, cells.as_slice())?;
     let mut list = List::new(alloc);
     for place in places {
-        match left_at(place, cells, longest, now) {
+        match left_at(place, &cells.sorted(), longest, now) {
             Some(change) => {
                 show(&mut list, depth, cells, &spots, &all, &before, change)?;
                 count_change(&mut before, cells, change);

@@ -8,7 +8,7 @@ ghost use Rattle.dur_instances.specs.Layout.{left_of};
 ghost use Rattle.dur_instances.specs.Places.{kept_in};
 ghost use Rattle.dur_instances.specs.Listing.{left_at, with_end, tallies_of, spots_of};
 
-use crate::cells::{Cell, Sorted, is_at, place_of, raised};
+use crate::cells::{Cell, Listed, Sorted, is_at, place_of, raised};
 use crate::changes::{Change, is_gone, is_long};
 use crate::links::Place;
 use crate::within::push;
@@ -65,7 +65,7 @@ fn add(tally: &mut Tally, later: u32)
 }
 
 /// Counts one change more.
-pub fn count_change(tallies: &mut Vec<Tally>, cells: &Sorted, change: &Change)
+pub fn count_change(tallies: &mut Vec<Tally>, cells: &Listed, change: &Change)
     requires len { vec_len tallies.old ≡ length cells.now }
     requires few { (i : ℕ) (t : Counted) → slice_get tallies.old.items i ≡ Some t → t.count + 1 < 2 ^ 64 }
     ensures { (left : List Kept) → tallies.old.items ≡ tallies_of cells.now left → tallies.new.items ≡ tallies_of cells.now (left ++ change.now ∷ []) }
@@ -78,12 +78,12 @@ pub fn count_change(tallies: &mut Vec<Tally>, cells: &Sorted, change: &Change)
 }
 
 // Counts the change that is kept there, if it is left at the moment.
-fn count_place(tallies: &mut Vec<Tally>, cells: &Sorted, place: &Place, longest: u64, now: Ticks)
+fn count_place(tallies: &mut Vec<Tally>, cells: &Listed, place: &Place, longest: u64, now: Ticks)
     requires len { vec_len tallies.old ≡ length cells.now }
     requires few { (i : ℕ) (t : Counted) → slice_get tallies.old.items i ≡ Some t → t.count + 1 < 2 ^ 64 }
     ensures { (left : List Kept) → tallies.old.items ≡ tallies_of cells.now left → tallies.new.items ≡ tallies_of cells.now (with_end left (left_at cells.now longest now place.now.change)) }
 {
-    match left_at(place, cells, longest, now) {
+    match left_at(place, &cells.sorted(), longest, now) {
         Some(change) => count_change(tallies, cells, change),
         None => {}
     }
@@ -92,7 +92,7 @@ fn count_place(tallies: &mut Vec<Tally>, cells: &Sorted, place: &Place, longest:
 /// What is left of each instance at the moment.
 pub fn tallies_over(
     alloc: Global,
-    cells: &Sorted,
+    cells: &Listed,
     places: &[Place],
     longest: u64,
     now: Ticks,

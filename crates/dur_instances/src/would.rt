@@ -12,6 +12,7 @@ ghost use Rattle.dur_instances.specs.Would.{is_left_at, later_in, is_left, fresh
 use crate::cells::{Cell, Sorted, count_of, find, raised};
 use crate::changes::{Change, is_gone, is_long, is_over as is_expired};
 use crate::links::Place;
+use crate::table::cell_of;
 use dur_base::{Act, Key, Sample, Ticks};
 use dur_qos::Topic;
 use dur_view::Limit;
@@ -170,13 +171,7 @@ fn is_there(cells: &Sorted, longest: u64, now: Ticks, key: Key) -> bool
 fn count_there(cells: &Sorted, longest: u64, now: Ticks) -> usize
     ensures { result ≡ length (cells_there cells.now longest now) }
 {
-    let mut count = 0;
-    for cell in cells.as_slice() {
-        if !is_long(cell.quiet, longest, now) {
-            count += 1;
-        }
-    }
-    count
+    cells.cells().count_there(longest, now)
 }
 
 // How many instances the samples bring: each is counted at its last change.
@@ -227,9 +222,16 @@ fn any_kept_over(
 ) -> bool
     ensures { result ≡ list_any (λ c. not (is_long c.quiet longest now) && is_over limit (count_asked (Some c.key) (left_after cells.now (kept_in places.now) depth longest now samples.now))) cells.now }
 {
-    for cell in cells.as_slice() {
-        if has_more(limit, cells, places, depth, longest, now, samples, cell) {
-            return true;
+    let entries = cells.cells().entries();
+    for i in 0..entries.len() {
+        match entries.get_index(i) {
+            Some((key, state)) => {
+                let cell = cell_of(Key(*key), state);
+                if has_more(limit, cells, places, depth, longest, now, samples, &cell) {
+                    return true;
+                }
+            }
+            None => {}
         }
     }
     false
@@ -283,7 +285,7 @@ fn any_new_over(
     false
 }
 
-// Whether more instances exist than the limit, when the samples took effect.
+// Whether more instances exist than the limit, when the samples took effect. None are counted where no count could be over.
 fn are_instances_over(
     limit: Option<u32>,
     cells: &Sorted,
@@ -293,19 +295,19 @@ fn are_instances_over(
 ) -> bool
     ensures { result ≡ is_over limit (length (cells_there cells.now longest now) + new_keys (is_there_in cells.now longest now) samples.now) }
 {
-    match limit {
-        None => false,
-        Some(_) => {
-            let there = count_there(cells, longest, now) as u128;
-            is_over(
-                limit,
-                there + count_new(cells, longest, now, samples) as u128,
-            )
-        }
+    let most = cells.cells().len() as u128 + samples.len() as u128;
+    if !is_over(limit, most) {
+        return false;
     }
+    let there = count_there(cells, longest, now) as u128;
+    is_over(
+        limit,
+        there + count_new(cells, longest, now, samples) as u128,
+    )
 }
 
-// Whether an instance that exists when the samples took effect has more changes left than the limit.
+// Whether an instance that exists when the samples took effect has more changes left than the limit. None are counted where
+// no count could be over.
 fn is_any_over(
     limit: Option<u32>,
     cells: &Sorted,
@@ -317,14 +319,14 @@ fn is_any_over(
 ) -> bool
     ensures { result ≡ any_there cells.now longest now samples.now (λ k. is_over limit (count_asked (Some k) (left_after cells.now (kept_in places.now) depth longest now samples.now))) }
 {
-    match limit {
-        None => false,
-        Some(_) => any_kept_over(limit, cells, places, depth, longest, now, samples)
-            || any_new_over(limit, cells, places, depth, longest, now, samples),
+    if !is_over(limit, places.len() as u128 + samples.len() as u128) {
+        return false;
     }
+    any_kept_over(limit, cells, places, depth, longest, now, samples)
+        || any_new_over(limit, cells, places, depth, longest, now, samples)
 }
 
-// Whether more changes are left than the limit, when the samples took effect.
+// Whether more changes are left than the limit, when the samples took effect. None are counted where no count could be over.
 fn are_changes_over(
     limit: Option<u32>,
     cells: &Sorted,
@@ -336,13 +338,13 @@ fn are_changes_over(
 ) -> bool
     ensures { result ≡ is_over limit (count_asked None (left_after cells.now (kept_in places.now) depth longest now samples.now)) }
 {
-    match limit {
-        None => false,
-        Some(_) => is_over(
-            limit,
-            count_left(cells, places, depth, longest, now, samples, &None),
-        ),
+    if !is_over(limit, places.len() as u128 + samples.len() as u128) {
+        return false;
     }
+    is_over(
+        limit,
+        count_left(cells, places, depth, longest, now, samples, &None),
+    )
 }
 
 /// The first limit that is passed when the samples took effect at the moment.

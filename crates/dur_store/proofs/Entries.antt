@@ -1,5 +1,5 @@
 -- One entry more in the store: a skip, a loss, a sample, by what became of each part. And a sample that is not taken in.
-use Rattle.std.proofs.Common.{◌≡◌, ◌≢◌, ℕ, zero, suc, ◌+◌, ◌≤◌, max, ◌⊎◌, inl, inr, Option, Some, Result, Ok, Err, OnOk, OnErr, List, [], ◌∷◌, map, length, refl, sym, ap, ◌∙◌, subst, arith}
+use Rattle.std.proofs.Common.{◌≡◌, ℕ, zero, suc, ◌+◌, ◌≤◌, max, Option, Some, Result, Ok, Err, OnOk, OnErr, List, [], ◌∷◌, map, length, refl, sym, ap, ◌∙◌, subst, arith}
 use Rattle.std.specs.Prelude.{slice_get, option_map}
 use Rattle.std.proofs.Math.ListN.{set}
 use Rattle.dur_base.specs.declared.sample.Sample.{Sample}
@@ -27,10 +27,13 @@ use Rattle.dur_store.specs.Parts.{line_of, IsTopic, AreTopics}
 use Rattle.dur_store.specs.Places.{guids, found, IsPlace}
 use Rattle.dur_store.specs.Taking.{TakesIn}
 use Rattle.dur_store.proofs.Writers.{Kept, kept-at}
-use Rattle.dur_store.proofs.Steps.{get-set, length-set, own-brings, keeps-step, keeps-quiet, skip-none, skip-line, lost-line, took-line}
+use Rattle.dur_store.specs.Room.{HasRoom}
+use Rattle.dur_store.specs.Spare.{HadWriters, HadTopics}
+use Rattle.dur_store.proofs.Rooms.{SameNeeds, IsUsed, room-stays, room-put, room-took, few-none, few-same, same-topics, put-writers, put-topics, topics-room}
+use Rattle.dur_store.proofs.Steps.{length-set, own-brings, keeps-step, keeps-quiet, skip-none, skip-line, lost-line, took-line}
 
 -- the line of the writer that is kept at a place
-line-at : (ws : List Writer) (h : History) (i : ℕ) (w : Guid) (x : Writer) (kept : Kept ws h i w) → slice_get ws i ≡ Some x → line_of x ≡ line_after h kept.at.line
+pub line-at : (ws : List Writer) (h : History) (i : ℕ) (w : Guid) (x : Writer) (kept : Kept ws h i w) → slice_get ws i ≡ Some x → line_of x ≡ line_after h kept.at.line
 line-at ws h i w x kept at =
     let e : Some (line_of x) ≡ Some (line_after h kept.at.line) = sym (ap (λ (o : Option Writer). option_map line_of o) at) ∙ kept.one in
     cc
@@ -40,12 +43,13 @@ pub keeps-skip : (s new : Store) (h : History) (m : ℕ) (u : Guid) (from to i :
     → found s.index u ≡ Some i → slice_get s.writers.items i ≡ Some old → line_of w ≡ record (line_of old) { next = to + 1; held = [] }
     → ((line : KeptWriter) → slice_get (start h).writers i ≡ Some line → StandFor new.sets (h ▸ Skip m line.guid from to))
     → new.outline ≡ record s.outline { last = m } → new.writers.items ≡ set s.writers.items i w → ((g : Guid) → found new.index g ≡ found s.index g) → new.topics.items ≡ s.topics.items
-    → Keeps new (h ▸ Skip m u from to)
-keeps-skip s new h m u from to i old w keeps follows place lent line sets outline writers index topics =
+    → old.held.room ≤ w.held.room → SameNeeds s new → Keeps new (h ▸ Skip m u from to)
+keeps-skip s new h m u from to i old w keeps follows place lent line sets outline writers index topics more needs =
     let kept = kept-at s.writers.items h i u (found s.index u) keeps.writers keeps.history (keeps.index u) place in
     let same = line-at s.writers.items h i u old kept lent in
     keeps-quiet s new h (Skip m u from to) i w kept.at keeps follows outline writers (line ∙ skip-line h m u from to kept.at.line (line_of old) kept.at.guid same) index
     (subst (λ (g : Guid). StandFor new.sets (h ▸ Skip m g from to)) kept.at.guid (sets kept.at.line kept.at.at)) topics (skip-none h m u from to)
+    (room-put s new i old w keeps.room lent (ap (λ (l : KeptWriter). l.topic) line) (few-none w old (ap (λ (l : KeptWriter). l.held) line)) more writers (same-topics s.topics.items new.topics.items topics) needs)
 
 -- what two readings of one place give
 pub one-got : {X : Type 0} (xs : List X) (i : ℕ) (x y : X) → slice_get xs i ≡ Some x → slice_get xs i ≡ Some y → x ≡ y
@@ -79,8 +83,8 @@ pub keeps-lost : (s new : Store) (h : History) (m : ℕ) (u : Guid) (i : ℕ) (o
     → ((p : Past) → Tells x p → Tells y (p ▹ Gone (max m x.last) i)) → y.last ≡ max m x.last
     → ((line : KeptWriter) → slice_get (start h).writers i ≡ Some line → StandFor new.sets (h ▸ Lost m line.guid))
     → new.outline ≡ record s.outline { last = m } → new.writers.items ≡ set s.writers.items i w → ((g : Guid) → found new.index g ≡ found s.index g) → new.topics.items ≡ set s.topics.items old.topic y
-    → Keeps new (h ▸ Lost m u)
-keeps-lost s new h m u i old w x y keeps follows place lent there line step last sets outline writers index topics =
+    → old.held.room ≤ w.held.room → x.room ≤ y.room → SameNeeds s new → Keeps new (h ▸ Lost m u)
+keeps-lost s new h m u i old w x y keeps follows place lent there line step last sets outline writers index topics more wide needs =
     let kept = kept-at s.writers.items h i u (found s.index u) keeps.writers keeps.history (keeps.index u) place in
     let same = line-at s.writers.items h i u old kept lent in
     let topic : old.topic ≡ kept.at.line.topic = ap (λ (l : KeptWriter). l.topic) same in
@@ -92,6 +96,8 @@ keeps-lost s new h m u i old w x y keeps follows place lent there line step last
     (subst (λ (g : Guid). StandFor new.sets (h ▸ Lost m g)) kept.at.guid (sets kept.at.line kept.at.at))
     (topics ∙ ap (λ (k : ℕ). set s.topics.items k y) topic)
     (record { stands = subst (λ (es : List TopicEvent). Tells y (past t h ▹▹ es)) (sym (own-brings h (Lost m u) i kept.at)) stands; early = omega arith })
+    (room-put s new i old w keeps.room lent (ap (λ (l : KeptWriter). l.topic) line) (few-none w old (ap (λ (l : KeptWriter). l.held) line)) more writers
+    (put-topics s.topics.items new.topics.items old.topic x y there wide topics) needs)
 
 -- A sample of the writer at a place is taken in.
 pub keeps-took : (s new : Store) (h : History) (m : ℕ) (u : Guid) (n : ℕ) (sample : Sample) (i : ℕ) (old w : Writer) (x y : Trimmed) (answer : Answer) (mark : SetMark) → Keeps s h → Follows h (Took m u n sample)
@@ -100,8 +106,8 @@ pub keeps-took : (s new : Store) (h : History) (m : ℕ) (u : Guid) (n : ℕ) (s
     → (AreTold old.held.items n sample.set answer → TakesIn i (max m x.last) n sample old w x y)
     → ((line : KeptWriter) → slice_get (start h).writers i ≡ Some line → n ≡ next h line.guid → StandFor new.sets (h ▸ Took m line.guid n sample))
     → new.outline ≡ record s.outline { last = m } → new.writers.items ≡ set s.writers.items i w → ((g : Guid) → found new.index g ≡ found s.index g) → new.topics.items ≡ set s.topics.items old.topic y
-    → Keeps new (h ▸ Took m u n sample)
-keeps-took s new h m u n sample i old w x y answer mark keeps follows place lent there marked tells takes sets outline writers index topics =
+    → HasRoom s → IsUsed s new i w old.topic → Keeps new (h ▸ Took m u n sample)
+keeps-took s new h m u n sample i old w x y answer mark keeps follows place lent there marked tells takes sets outline writers index topics has used =
     let kept = kept-at s.writers.items h i u (found s.index u) keeps.writers keeps.history (keeps.index u) place in
     let line = kept.at.line in
     let same = line-at s.writers.items h i u old kept lent in
@@ -124,36 +130,45 @@ keeps-took s new h m u n sample i old w x y answer mark keeps follows place lent
     (subst (λ (g : Guid). StandFor new.sets (h ▸ Took m g n sample)) kept.at.guid (sets line kept.at.at number))
     (topics ∙ ap (λ (k : ℕ). set s.topics.items k y) topic)
     (record { stands = subst (λ (es : List TopicEvent). Tells y (past t h ▹▹ es)) (sym (own-brings h (Took m u n sample) i kept.at)) stands; early = taken.last })
+    (room-took s new i w old.topic y keeps.room has (ap (λ (l : KeptWriter). l.topic) taken.writer) writers topics used)
 
 -- what is put reads the same
-same-put : {X Y : Type 0} (f : X → Y) (xs : List X) (i : ℕ) (old x : X) → slice_get xs i ≡ Some old → f x ≡ f old → map f (set xs i x) ≡ map f xs
+pub same-put : {X Y : Type 0} (f : X → Y) (xs : List X) (i : ℕ) (old x : X) → slice_get xs i ≡ Some old → f x ≡ f old → map f (set xs i x) ≡ map f xs
 same-put f [] i old x at same = refl
 same-put f (z ∷ xs) zero old x at same =
     let is : z ≡ old = cc in
     ap (λ y. y ∷ map f xs) (same ∙ ap f (sym is))
 same-put f (z ∷ xs) (suc i) old x at same = ap (λ ys. f z ∷ ys) (same-put f xs i old x at same)
 
--- a topic that has more room alone
-room-topic : (t : ℕ) (h : History) (x y : Trimmed) → y ≡ record x { room = y.room } → IsTopic t h x → IsTopic t h y
-room-topic t h x y is was = subst (IsTopic t h) (sym is) (record { stands = was.stands; early = was.early })
-
-room-by : (h : History) (xs : List Trimmed) (t k : ℕ) (x y z : Trimmed) → AreTopics xs h → slice_get xs t ≡ Some x → y ≡ record x { room = y.room }
-    → ((k ≡ t) × (Some y ≡ Some z)) ⊎ ((k ≢ t) × (slice_get xs k ≡ Some z)) → IsTopic k h z
-room-by h xs t k x y z are at is (inl own) =
-    let one : y ≡ z = (let e = own.1 in cc) in
-    subst (λ (n : ℕ). IsTopic n h z) (sym own.0) (subst (IsTopic t h) one (room-topic t h x y is (are t x at)))
-room-by h xs t k x y z are at is (inr other) = are k z other.1
-
--- Nothing was taken in: what was put reads the same, but for room.
-pub keeps-same : (s new : Store) (h : History) (i t : ℕ) (old w : Writer) (x y : Trimmed) → Keeps s h → slice_get s.writers.items i ≡ Some old → slice_get s.topics.items t ≡ Some x
-    → line_of w ≡ line_of old → y ≡ record x { room = y.room } → new.outline ≡ s.outline → new.writers.items ≡ set s.writers.items i w
-    → ((g : Guid) → found new.index g ≡ found s.index g) → new.sets ≡ s.sets → new.topics.items ≡ set s.topics.items t y → Keeps new h
-keeps-same s new h i t old w x y keeps lent there line room outline writers index sets topics = record {
+-- Nothing that is told changed, and no room was lost.
+pub keeps-rest : (s new : Store) (h : History) → Keeps s h → new.outline ≡ s.outline → map line_of new.writers.items ≡ map line_of s.writers.items → ((g : Guid) → found new.index g ≡ found s.index g) → new.sets ≡ s.sets
+    → length new.topics.items ≡ length s.topics.items → AreTopics new.topics.items h → HadWriters s.writers.items new.writers.items → HadTopics s.topics.items new.topics.items → SameNeeds s new → Keeps new h
+keeps-rest s new h keeps outline lines index sets count topics writers had needs = record {
   history = keeps.history;
   outline = outline ∙ keeps.outline;
-  writers = ap (λ (l : List Writer). map line_of l) writers ∙ same-put line_of s.writers.items i old w lent line ∙ keeps.writers;
+  writers = lines ∙ keeps.writers;
   index = λ g. subst (IsPlace (guids (start h).writers) g) (sym (index g)) (keeps.index g);
   sets = subst (λ (l : Sets). StandFor l h) (sym sets) keeps.sets;
-  count = ap length topics ∙ length-set s.topics.items t y ∙ keeps.count;
-  topics = λ k z at. room-by h s.topics.items t k x y z keeps.topics there room (get-set s.topics.items t y k z (ap (λ (l : List Trimmed). slice_get l k) (sym topics) ∙ at));
+  count = count ∙ keeps.count;
+  topics = topics;
+  room = room-stays s new keeps.room writers had needs;
 }
+
+-- A writer that reads the same was put.
+pub keeps-line : (s new : Store) (h : History) (i : ℕ) (old w : Writer) → Keeps s h → slice_get s.writers.items i ≡ Some old → line_of w ≡ line_of old → new.outline ≡ s.outline → new.writers.items ≡ set s.writers.items i w
+    → ((g : Guid) → found new.index g ≡ found s.index g) → new.sets ≡ s.sets → new.topics.items ≡ s.topics.items → old.held.room ≤ w.held.room → SameNeeds s new → Keeps new h
+keeps-line s new h i old w keeps lent line outline writers index sets topics more needs =
+    keeps-rest s new h keeps outline (ap (λ (l : List Writer). map line_of l) writers ∙ same-put line_of s.writers.items i old w lent line) index sets (ap length topics)
+    (subst (λ (l : List Trimmed). AreTopics l h) (sym topics) keeps.topics)
+    (put-writers s.writers.items new.writers.items i old w lent (ap (λ (l : KeptWriter). l.topic) line) (few-same w old (ap (λ (l : KeptWriter). l.held) line)) more writers)
+    (same-topics s.topics.items new.topics.items topics) needs
+
+-- A writer and a topic were put that got room.
+pub keeps-room : (s new : Store) (h : History) (i : ℕ) (old w : Writer) (t : ℕ) (x y : Trimmed) → Keeps s h → slice_get s.writers.items i ≡ Some old → line_of w ≡ line_of old → slice_get s.topics.items t ≡ Some x → y ≡ record x { room = y.room }
+    → new.outline ≡ s.outline → new.writers.items ≡ set s.writers.items i w → ((g : Guid) → found new.index g ≡ found s.index g) → new.sets ≡ s.sets → new.topics.items ≡ set s.topics.items t y
+    → old.held.room ≤ w.held.room → x.room ≤ y.room → SameNeeds s new → Keeps new h
+keeps-room s new h i old w t x y keeps lent line there is outline writers index sets topics more wide needs =
+    keeps-rest s new h keeps outline (ap (λ (l : List Writer). map line_of l) writers ∙ same-put line_of s.writers.items i old w lent line) index sets (ap length topics ∙ length-set s.topics.items t y)
+    (subst (λ (l : List Trimmed). AreTopics l h) (sym topics) (topics-room s.topics.items t x y h there is keeps.topics))
+    (put-writers s.writers.items new.writers.items i old w lent (ap (λ (l : KeptWriter). l.topic) line) (few-same w old (ap (λ (l : KeptWriter). l.held) line)) more writers)
+    (put-topics s.topics.items new.topics.items t x y there wide topics) needs

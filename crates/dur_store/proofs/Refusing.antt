@@ -75,7 +75,7 @@ max-is s h t keeps =
 -- the limit that the sample would pass is what the entry is refused for
 pub refused-is : (s : Store) (h : History) (m : ℕ) (w : Guid) (n : ℕ) (x : Sample) (i : ℕ) (writer : Writer) (topic : Trimmed) (answer : Answer) (samples : List Sample) (late : ℕ) (over : Bool) (limit : Option Limit)
     → Kept s.writers.items h i w → Keeps s h → Follows h (Took m w n x) → Found s i m n x writer topic answer samples late over
-    → ((p : Past) (es : List TopicEvent) (members : ℕ) → Stands topic p → TakeEffect late samples es → over ≡ is_over (settings p).max_held members → limit ≡ limit_at (p ▹▹ es) late members)
+    → (IsWhole answer.before writer.held.items → (p : Past) (es : List TopicEvent) (members : ℕ) → Stands topic p → TakeEffect late samples es → over ≡ is_over (settings p).max_held members → limit ≡ limit_at (p ▹▹ es) late members)
     → limit ≡ refused h (Took m w n x)
 refused-is s h m w n x i writer topic answer samples late over limit kept keeps follows found would =
     let e = Took m w n x in
@@ -98,7 +98,7 @@ refused-is s h m w n x i writer topic answer samples late over limit kept keeps 
     ∙ ap (λ (k : ℕ). is_over (settings (past t h)).max_held k) count in
     let brought : es ≡ brings_to t h e =
     ap (λ (l : List Held). brings i l e) (holds ∙ ap (λ (g : Guid). held h g) kept.at.guid) ∙ sym (own-brings h e i kept.at) ∙ ap (λ (k : ℕ). brings_to k h e) (sym topics) in
-    would (past t h) es members own.stands (subst (λ (k : ℕ). TakeEffect k samples es) (sym now) take) is_over_then
+    would (whole-of writer.held.items n x answer tells) (past t h) es members own.stands (subst (λ (k : ℕ). TakeEffect k samples es) (sym now) take) is_over_then
     ∙ ap (λ (k : ℕ). limit_at (past t h ▹▹ es) k members) now
     ∙ ap (λ (l : List TopicEvent). limit_at (past t h ▹▹ l) m members) brought
     ∙ ap (λ (k : ℕ). limit_of (h ▸ e) k m) (topics ∙ sym kept.at.topic)

@@ -27,6 +27,7 @@ use Rattle.dur_view.specs.History.{joined, Follows}
 use Rattle.dur_sets.specs.Stands.{StandFor}
 use Rattle.dur_store.specs.declared.store.Store.{Store}
 use Rattle.dur_store.specs.Keeps.{Keeps}
+use Rattle.dur_store.specs.Room.{HasRoomBut}
 use Rattle.dur_store.specs.Places.{guids, found, IsPlace}
 use Rattle.dur_store.specs.declared.writer.Writer.{Writer}
 use Rattle.dur_store.specs.Parts.{line_of, AreWriters, IsTopic, AreTopics}
@@ -166,8 +167,8 @@ length-set (y ∷ xs) (suc i) x = ap suc (length-set xs i x)
 -- what a store with one entry more keeps: its own writer and topic changed, and nothing else
 pub keeps-step : (s new : Store) (h : History) (e : Entry) (i : ℕ) (w : Writer) (y : Trimmed) (at : Stands (start h) i (writer_of e)) → Keeps s h → Follows h e
     → new.outline ≡ record s.outline { last = moment_of e } → new.writers.items ≡ set s.writers.items i w → line_of w ≡ line_after (h ▸ e) at.line → ((g : Guid) → found new.index g ≡ found s.index g) → StandFor new.sets (h ▸ e)
-    → new.topics.items ≡ set s.topics.items at.line.topic y → IsTopic at.line.topic (h ▸ e) y → Keeps new (h ▸ e)
-keeps-step s new h e i w y at keeps follows outline writers line index sets topics topic = record {
+    → new.topics.items ≡ set s.topics.items at.line.topic y → IsTopic at.line.topic (h ▸ e) y → HasRoomBut new → Keeps new (h ▸ e)
+keeps-step s new h e i w y at keeps follows outline writers line index sets topics topic room = record {
   history = (keeps.history, follows);
   outline = outline ∙ ap (λ (v : View). record v { last = moment_of e }) keeps.outline;
   writers = writers-put h e s.writers.items new.writers.items i w at keeps.history keeps.writers writers line;
@@ -175,13 +176,14 @@ keeps-step s new h e i w y at keeps follows outline writers line index sets topi
   sets = sets;
   count = ap length topics ∙ length-set s.topics.items at.line.topic y ∙ keeps.count;
   topics = topics-put h e at.line.topic y s.topics.items new.topics.items keeps.topics follows.later at.topic topic topics;
+  room = room;
 }
 
 -- the same of an entry that brings nothing
 pub keeps-quiet : (s new : Store) (h : History) (e : Entry) (i : ℕ) (w : Writer) (at : Stands (start h) i (writer_of e)) → Keeps s h → Follows h e
     → new.outline ≡ record s.outline { last = moment_of e } → new.writers.items ≡ set s.writers.items i w → line_of w ≡ line_after (h ▸ e) at.line → ((g : Guid) → found new.index g ≡ found s.index g) → StandFor new.sets (h ▸ e)
-    → new.topics.items ≡ s.topics.items → ((k : ℕ) → brings_to k h e ≡ []) → Keeps new (h ▸ e)
-keeps-quiet s new h e i w at keeps follows outline writers line index sets topics none = record {
+    → new.topics.items ≡ s.topics.items → ((k : ℕ) → brings_to k h e ≡ []) → HasRoomBut new → Keeps new (h ▸ e)
+keeps-quiet s new h e i w at keeps follows outline writers line index sets topics none room = record {
   history = (keeps.history, follows);
   outline = outline ∙ ap (λ (v : View). record v { last = moment_of e }) keeps.outline;
   writers = writers-put h e s.writers.items new.writers.items i w at keeps.history keeps.writers writers line;
@@ -189,6 +191,7 @@ keeps-quiet s new h e i w at keeps follows outline writers line index sets topic
   sets = sets;
   count = ap length topics ∙ keeps.count;
   topics = subst (λ (l : List Trimmed). AreTopics l (h ▸ e)) (sym topics) (topics-none h e s.topics.items keeps.topics follows.later none);
+  room = room;
 }
 
 either-same : {X : Type 0} (b : Bool) (x : X) → cond b x x ≡ x

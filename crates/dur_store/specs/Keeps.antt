@@ -6,6 +6,7 @@ use Rattle.dur_sets.specs.Stands.{StandFor}
 use Rattle.dur_store.specs.declared.store.Store.{Store}
 use Rattle.dur_store.specs.Places.{guids, found, IsIndex}
 use Rattle.dur_store.specs.Parts.{outline_of, AreWriters, AreTopics}
+use Rattle.dur_store.specs.Room.{HasRoomBut}
 
 -- The store stands for this history. Whoever uses a store cites this relation alone, so how a store keeps a history may
 -- change without a changed clause.
@@ -23,3 +24,5 @@ pub record Keeps (s : Store) (h : History) : Type 0 where
   -- the instances and the kept changes of each topic
   pub count : length s.topics.items ≡ length (start h).topics
   pub topics : AreTopics s.topics.items h
+  -- room for the next entry, but for what the last one used up
+  pub room : HasRoomBut s

@@ -1,14 +1,14 @@
 //! What takes effect in a topic.
 
-ghost use Rattle.std.specs.Prelude.{◌≡◌, ◌<◌, ◌≤◌, ◌+◌, length, map};
+ghost use Rattle.std.specs.Prelude.{◌≡◌, ◌<◌, ◌≤◌, ◌+◌, [], length, map};
 ghost use Rattle.dur_view.specs.Past.{Past, ◌▹◌, ◌▹▹◌};
 ghost use Rattle.dur_view.specs.declared.change.TopicEvent.TheVariants.{Effect};
 ghost use Rattle.dur_instances.specs.Stands.{Stands};
 ghost use Rattle.dur_sets.specs.Tells.{takes_effect};
 
+use crate::members::Members;
 use dur_base::{Act, Guid, Number, Sample, Ticks};
 use dur_instances::Instances;
-use dur_view::Held;
 
 /// A sample of the writer at a place takes effect.
 pub fn bring(
@@ -36,16 +36,19 @@ pub fn bring(
     }
 }
 
-/// The members of a whole set take effect, in their order.
-pub fn bring_all(topic: &mut Instances, moment: Ticks, by: u32, writer: Guid, members: Vec<Held>)
-    requires room { length members.items ≤ topic.old.room }
+/// The members of a whole set take effect, in their order, and are held no longer.
+pub fn bring_all(topic: &mut Instances, moment: Ticks, by: u32, writer: Guid, members: &mut Members)
+    requires room { length members.old.items ≤ topic.old.room }
     requires late { topic.old.last ≤ moment }
     ensures stands { (p : Past) → Stands topic.old p
-        → Stands topic.new (p ▹▹ map (takes_effect moment by writer) members.items) }
+        → Stands topic.new (p ▹▹ map (takes_effect moment by writer) members.old.items) }
     ensures last { topic.new.last ≤ moment }
-    ensures room { topic.old.room ≤ topic.new.room + length members.items }
+    ensures room { topic.old.room ≤ topic.new.room + length members.old.items }
+    ensures none { members.new.items ≡ [] }
+    ensures spare { members.old.room ≤ members.new.room }
 {
-    for member in members {
+    members.reverse();
+    while let Some(member) = members.pop() {
         bring(
             topic,
             moment,

@@ -5,6 +5,9 @@ mod begin;
 mod events;
 mod index;
 mod limits;
+mod members;
+#[cfg(test)]
+mod random;
 mod refuse;
 mod room;
 mod store;

@@ -1,70 +1,23 @@
 //! Which limit of its topic a sample would pass.
 
-ghost use Rattle.std.specs.Prelude.{◌≡◌, ℕ, ◌+◌, ◌*◌, ◌^◌, ◌≤◌, ◌++◌, List as Sequence, Some, None, length, map, slice_get, unwrap_or, IfOk};
+ghost use Rattle.std.specs.Prelude.{◌≡◌, ℕ, ◌+◌, ◌*◌, ◌^◌, ◌≤◌, ◌++◌, List as Sequence, Some, None, length, slice_get, unwrap_or};
+ghost use Rattle.dur_base.specs.declared.sample.Sample.{Sample as Entered};
 ghost use Rattle.dur_view.specs.declared.data.Held.{Held as Member};
 ghost use Rattle.dur_view.specs.declared.change.TopicEvent.{TopicEvent};
 ghost use Rattle.dur_view.specs.Past.{Past, ◌▹▹◌, no_topic};
 ghost use Rattle.dur_view.specs.Fates.{settings};
 ghost use Rattle.dur_view.specs.Refused.{is_over};
+ghost use Rattle.dur_instances.specs.Trimmed.{Trimmed};
 ghost use Rattle.dur_instances.specs.Stands.{Stands};
 ghost use Rattle.dur_instances.specs.Would.{TakeEffect};
-ghost use Rattle.dur_sets.specs.Tells.{closed, left, if_now, if_held};
+ghost use Rattle.dur_sets.specs.Tells.{left, if_held};
 ghost use Rattle.dur_store.specs.Parts.{line_of};
-ghost use Rattle.dur_store.specs.Taking.{IsWhole};
+ghost use Rattle.dur_store.specs.Members.{IsPassed};
 ghost use Rattle.dur_store.specs.Limits.{held_for, members_in, members_then, limit_at};
 
 use crate::writer::Writer;
-use dur_base::{List, OutOfMemory, Sample, Ticks};
-use dur_instances::Instances;
 use dur_sets::{Before, Effect, Now};
-use dur_view::{Held, Limit, View};
-use std::alloc::Global;
-
-fn copies_of(alloc: Global, members: &[Held]) -> Result<List<Sample>, OutOfMemory>
-    ensures { IfOk result (λ l. l ≡ map (λ x. x.sample) members.now) }
-{
-    let mut samples = List::new(alloc);
-    for member in members {
-        samples.push(member.sample.copy()?)?;
-    }
-    Ok(samples)
-}
-
-// The samples of the members that a sample closes.
-fn closed_samples(
-    alloc: Global,
-    members: &[Held],
-    before: &Before,
-) -> Result<List<Sample>, OutOfMemory>
-    ensures { IfOk result (λ l. IsWhole before.now members.now
-        → l ≡ map (λ x. x.sample) (closed before.now members.now)) }
-{
-    match before {
-        Before::Nothing => Ok(List::new(alloc)),
-        Before::Close(_) => copies_of(alloc, members),
-    }
-}
-
-/// The samples that take effect with a sample: those of the members that it closes, and then itself.
-pub fn samples_of(
-    alloc: Global,
-    members: &[Held],
-    effect: &Effect,
-    sample: &Sample,
-) -> Result<List<Sample>, OutOfMemory>
-    ensures { IfOk result (λ l. IsWhole effect.entry.now.before members.now
-        → l ≡ map (λ x. x.sample) (closed effect.entry.now.before members.now)
-        ++ if_now effect.entry.now.now sample.now) }
-{
-    let mut samples = closed_samples(alloc, members, &effect.before)?;
-    match &effect.now {
-        Now::Now => {
-            samples.push(sample.copy()?)?;
-            Ok(samples)
-        }
-        Now::Hold | Now::Drop => Ok(samples),
-    }
-}
+use dur_view::{Limit, View};
 
 // How many members the open set of a writer of the topic has.
 fn held_for(writer: &Writer, topic: u32) -> usize
@@ -159,21 +112,15 @@ pub fn max_held_of(outline: &View, topic: usize) -> Option<u32>
     }
 }
 
-/// The first limit that the topic passes when the samples took effect at a moment, where its open sets have too many
+/// The first limit that a topic passes, where this is the first one with no member held, and its open sets have too many
 /// members or not.
-pub fn limit_with(
-    topic: &Instances,
-    samples: &[Sample],
-    moment: Ticks,
-    is_held_over: bool,
-) -> Option<Limit>
-    requires { topic.now.last ≤ moment }
-    ensures { (p : Past) (es : Sequence TopicEvent) (members : ℕ)
-        → Stands topic.now p → TakeEffect moment samples.now es
+pub fn limit_with(limit: Option<Limit>, is_held_over: bool) -> Option<Limit>
+    ensures { (topic : Trimmed) (moment : ℕ) (samples : Sequence Entered) (p : Past) (es : Sequence TopicEvent) (members : ℕ)
+        → IsPassed topic moment samples limit → Stands topic p → TakeEffect moment samples es
         → is_held_over ≡ is_over (settings p).max_held members
         → result ≡ limit_at (p ▹▹ es) moment members }
 {
-    match topic.would(samples, moment) {
+    match limit {
         Some(limit) => Some(limit),
         None => if is_held_over {
             Some(Limit::Held)

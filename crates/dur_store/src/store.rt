@@ -1,6 +1,6 @@
 //! The store of all topics.
 
-ghost use Rattle.std.specs.Prelude.{◌≡◌, ℕ, ◌-◌, ◌^◌, ◌<◌, ◌≤◌, length, OnOk, OnErr, IfOk, IfErr};
+ghost use Rattle.std.specs.Prelude.{◌≡◌, ℕ, ◌-◌, ◌^◌, ◌<◌, ◌≤◌, length, OnOk, OnErr, IfOk, IfErr, IsOk};
 ghost use Rattle.dur_base.specs.declared.entry.Entry.TheVariants.{Took as Takes, Skip as Skips, Lost as Loses};
 ghost use Rattle.dur_qos.specs.Good.{GoodPlan};
 ghost use Rattle.dur_view.specs.History.{History, Start, ◌▸◌, start, moment as last_moment, next, HasShortNumber, Follows};
@@ -12,16 +12,17 @@ ghost use Rattle.dur_view.specs.Past.{past};
 ghost use Rattle.dur_view.specs.Snapshot.{snap};
 ghost use Rattle.dur_view.specs.Refused.{refused};
 ghost use Rattle.dur_store.specs.Keeps.{Keeps};
-ghost use Rattle.dur_store.specs.Admitting.{Admitting};
+ghost use Rattle.dur_store.specs.Room.{HasRoom};
+ghost use Rattle.dur_store.specs.Admitting.{Admitting, WhereRoom};
 
 use crate::Refuse;
 use crate::begin::topics_of;
 use crate::index::{index_of, place_of};
-use crate::limits::{is_held_over, limit_with, max_held_of, samples_of};
-use crate::room::make_room;
+use crate::limits::{is_held_over, limit_with, max_held_of};
+use crate::room::{make_room, need, needed_at, needed_of, room_at, spare_all, spare_at};
 use crate::taking::take_in;
 use crate::whole::parts_of;
-use crate::writer::{Writer, let_go, lines_of, pass_over, writers_of};
+use crate::writer::{Writer, let_go, lines_of, pass_over, would_pass, writers_of};
 use dur_base::{Entry, Guid, List, Number, OutOfMemory, Sample, SetMark, Ticks, later};
 use dur_instances::Instances;
 use dur_qos::Plan;
@@ -45,6 +46,11 @@ pub struct Store {
     index: HashMap<[u8; 16], u32>,
     sets: Sets,
     topics: Vec<Instances>,
+    // For how many changes each topic needs room: more than the members that any writer of it holds.
+    needed: Vec<usize>,
+    // The places of the writer and of the topic whose room the last entry used up.
+    used_writer: usize,
+    used_topic: usize,
 }
 
 impl Store {
@@ -71,7 +77,7 @@ impl Store {
     {
         let sets = Sets::new(alloc, &view)?;
         let index = index_of(alloc, view.writers.as_slice())?;
-        let topics = topics_of(alloc, &view)?;
+        let mut topics = topics_of(alloc, &view)?;
         let View {
             last,
             topics: declared,
@@ -85,25 +91,38 @@ impl Store {
             instances: List::new(alloc),
             kept: List::new(alloc),
         };
+        let mut writers = writers_of(alloc, writers)?;
+        spare_all(&mut writers)?;
+        let needed = needed_of(alloc, &writers, topics.len())?;
+        make_room(&mut topics, &needed)?;
         Ok(Store {
             outline,
-            writers: writers_of(alloc, writers)?,
+            writers,
             index,
             sets,
             topics,
+            needed,
+            used_writer: 0,
+            used_topic: 0,
         })
     }
 
-    /// Makes room for the next entry.
+    /// Makes room for the next entry, whichever it is, in place of what the last one used up. Where there is room, memory
+    /// is not wanted.
     pub fn reserve(&mut self) -> Result<(), OutOfMemory>
-        ensures { (h : History) → Keeps self.old h → Keeps self.new h }
+        ensures ok { OnOk result ((h : History) → Keeps self.old h → HasRoom self.new) }
+        ensures enough { HasRoom self.old → IsOk result }
+        ensures keeps { (h : History) → Keeps self.old h → Keeps self.new h }
     {
-        make_room(&mut self.topics)
+        spare_at(&mut self.writers, self.used_writer)?;
+        let more = needed_at(&self.needed, self.used_topic);
+        room_at(&mut self.topics, self.used_topic, more)
     }
 
     /// Appends the entry, unless it would pass a limit of its topic at its moment: then it is refused for the first of
-    /// them and handed back. A skip and a loss pass none. Refused or on want of memory, the store is as it was.
-    pub fn admit(&mut self, alloc: Global, entry: Entry) -> Result<(), (Refuse, Entry)>
+    /// them and handed back. A skip and a loss pass none. Refused or on want of memory, the store is as it was. Where
+    /// there is room, as `reserve` makes it, memory is not wanted.
+    pub fn admit(&mut self, entry: Entry) -> Result<(), (Refuse, Entry)>
         requires { HasShortNumber entry }
         ensures { Admitting self.old entry self.new result }
     {
@@ -113,13 +132,13 @@ impl Store {
                 writer,
                 number,
                 sample,
-            } => self.admit_sample(alloc, moment, writer, number, sample),
+            } => self.admit_sample(moment, writer, number, sample),
             Entry::Skip {
                 moment,
                 writer,
                 from,
                 to,
-            } => match self.skip(alloc, moment, writer, to) {
+            } => match self.skip(moment, writer, to) {
                 Ok(()) => Ok(()),
                 Err(_) => Err((
                     Refuse::OutOfMemory,
@@ -131,7 +150,7 @@ impl Store {
                     },
                 )),
             },
-            Entry::Lost { moment, writer } => match self.lose(alloc, moment, writer) {
+            Entry::Lost { moment, writer } => match self.lose(moment, writer) {
                 Ok(()) => Ok(()),
                 Err(_) => Err((Refuse::OutOfMemory, Entry::Lost { moment, writer })),
             },
@@ -141,7 +160,6 @@ impl Store {
     // The same of a sample, the next of its writer.
     fn admit_sample(
         &mut self,
-        alloc: Global,
         moment: Ticks,
         writer: Guid,
         number: Number,
@@ -150,64 +168,79 @@ impl Store {
         requires { number < 2 ^ 63 - 1 }
         ensures { Admitting self.old (Takes moment writer number sample) self.new result }
     {
-        match self.limit_of(alloc, moment, writer, number, &sample) {
-            Ok(None) => match self.take(alloc, moment, writer, number, sample) {
+        match self.limit_of(moment, writer, number, sample) {
+            Ok((None, sample)) => match self.take(moment, writer, number, sample) {
                 Ok(()) => Ok(()),
                 Err(sample) => Err((Refuse::OutOfMemory, took(moment, writer, number, sample))),
             },
-            Ok(Some(limit)) => Err((
+            Ok((Some(limit), sample)) => Err((
                 Refuse::for_limit(limit),
                 took(moment, writer, number, sample),
             )),
-            Err(_) => Err((Refuse::OutOfMemory, took(moment, writer, number, sample))),
+            Err(sample) => Err((Refuse::OutOfMemory, took(moment, writer, number, sample))),
         }
     }
 
-    // The first limit of its topic that the next sample of a writer would pass.
+    // The first limit of its topic that the next sample of a writer would pass. The sample is handed back.
     fn limit_of(
-        &self,
-        alloc: Global,
+        &mut self,
         moment: Ticks,
         writer: Guid,
         number: Number,
-        sample: &Sample,
-    ) -> Result<Option<Limit>, OutOfMemory>
-        ensures { IfOk result (λ l. (h : History) → Keeps self.now h
-            → Follows h (Takes moment writer number sample.now)
-            → l ≡ refused h (Takes moment writer number sample.now)) }
+        sample: Sample,
+    ) -> Result<(Option<Limit>, Sample), Sample>
+        ensures limit { IfOk result (λ a. (h : History) → Keeps self.old h
+            → Follows h (Takes moment writer number sample)
+            → a.0 ≡ refused h (Takes moment writer number sample)) }
+        ensures ok { IfOk result (λ a. a.1 ≡ sample) }
+        ensures err { IfErr result (λ back. back ≡ sample) }
+        ensures keeps { (h : History) → Keeps self.old h → Keeps self.new h }
+        ensures room { HasRoom self.old → HasRoom self.new }
+        ensures memory { WhereRoom self.old (Takes moment writer number sample) (IsOk result) }
     {
         let Some(place) = place_of(&self.index, writer) else {
-            return Err(OutOfMemory);
+            return Err(sample);
         };
-        let Some(line) = self.writers.get(place as usize) else {
-            return Err(OutOfMemory);
-        };
-        let Some(topic) = self.topics.get(line.topic as usize) else {
-            return Err(OutOfMemory);
-        };
-        let effect = self.sets.effect(place, number, mark_of(sample));
-        let samples = samples_of(alloc, &line.held, &effect, sample)?;
-        let max_held = max_held_of(&self.outline, line.topic as usize);
-        let is_over = is_held_over(max_held, &self.writers, line, &effect);
-        let taken = later(moment, topic.last());
-        Ok(limit_with(topic, samples.as_slice(), taken, is_over))
+        let at = place as usize;
+        if at >= self.writers.len() {
+            return Err(sample);
+        }
+        let topic = self.writers[at].topic as usize;
+        if topic >= self.topics.len() {
+            return Err(sample);
+        }
+        let effect = self.sets.effect(place, number, mark_of(&sample));
+        let max_held = max_held_of(&self.outline, topic);
+        let is_over = is_held_over(max_held, &self.writers, &self.writers[at], &effect);
+        let taken = later(moment, self.topics[topic].last());
+        match would_pass(
+            &mut self.writers[at],
+            &self.topics[topic],
+            taken,
+            &effect,
+            sample,
+        ) {
+            Ok((limit, sample)) => Ok((limit_with(limit, is_over), sample)),
+            Err(sample) => Err(sample),
+        }
     }
 
-    /// Appends the entry, whatever the limits say. On want of memory the store is as it was.
+    /// Appends the entry, whatever the limits say. On want of memory the store is as it was. Where there is room, memory
+    /// is not wanted.
     pub fn restore(&mut self, entry: Entry) -> Result<(), OutOfMemory>
         requires { HasShortNumber entry }
         ensures ok { OnOk result ((h : History) → Keeps self.old h → Follows h entry
             → Keeps self.new (h ▸ entry)) }
         ensures err { OnErr result ((h : History) → Keeps self.old h → Keeps self.new h) }
+        ensures memory { WhereRoom self.old entry (IsOk result) }
     {
-        let alloc = self.outline.topics.alloc();
         match entry {
             Entry::Took {
                 moment,
                 writer,
                 number,
                 sample,
-            } => match self.take(alloc, moment, writer, number, sample) {
+            } => match self.take(moment, writer, number, sample) {
                 Ok(()) => Ok(()),
                 Err(_) => Err(OutOfMemory),
             },
@@ -216,15 +249,14 @@ impl Store {
                 writer,
                 to,
                 ..
-            } => self.skip(alloc, moment, writer, to),
-            Entry::Lost { moment, writer } => self.lose(alloc, moment, writer),
+            } => self.skip(moment, writer, to),
+            Entry::Lost { moment, writer } => self.lose(moment, writer),
         }
     }
 
     // The next sample of a writer is taken in. On want of memory it is handed back, and the store is as it was.
     fn take(
         &mut self,
-        alloc: Global,
         moment: Ticks,
         writer: Guid,
         number: Number,
@@ -236,7 +268,11 @@ impl Store {
             → Keeps self.new (h ▸ Takes moment writer number sample)) }
         ensures err { OnErr result ((h : History) → Keeps self.old h → Keeps self.new h) }
         ensures back { IfErr result (λ back. back ≡ sample) }
+        ensures memory { WhereRoom self.old (Takes moment writer number sample) (IsOk result) }
     {
+        let Ok(()) = self.reserve() else {
+            return Err(sample);
+        };
         let Some(place) = place_of(&self.index, writer) else {
             return Err(sample);
         };
@@ -252,7 +288,6 @@ impl Store {
         let mark = mark_of(&sample);
         let taken = later(moment, self.topics[topic].last());
         take_in(
-            alloc,
             &mut self.writers[at],
             &mut self.topics[topic],
             place,
@@ -261,24 +296,23 @@ impl Store {
             &effect,
             sample,
         )?;
+        need(&mut self.needed, topic, self.writers[at].held.len());
+        self.used_writer = at;
+        self.used_topic = topic;
         self.sets.step(place, number, mark);
         stamp(&mut self.outline, moment);
         Ok(())
     }
 
     // Numbers of a writer are passed over, up to one: its open set is broken.
-    fn skip(
-        &mut self,
-        alloc: Global,
-        moment: Ticks,
-        writer: Guid,
-        to: Number,
-    ) -> Result<(), OutOfMemory>
+    fn skip(&mut self, moment: Ticks, writer: Guid, to: Number) -> Result<(), OutOfMemory>
         requires { to < 2 ^ 63 - 1 }
         ensures ok { OnOk result ((h : History) (from : ℕ) → Keeps self.old h
             → Follows h (Skips moment writer from to)
             → Keeps self.new (h ▸ Skips moment writer from to)) }
         ensures err { OnErr result ((h : History) → Keeps self.old h → Keeps self.new h) }
+        ensures memory { (h : History) (from : ℕ) → Keeps self.old h
+            → Follows h (Skips moment writer from to) → IsOk result }
     {
         let Some(place) = place_of(&self.index, writer) else {
             return Err(OutOfMemory);
@@ -287,18 +321,20 @@ impl Store {
         if at >= self.writers.len() {
             return Err(OutOfMemory);
         }
-        pass_over(&mut self.writers[at], alloc, to);
+        pass_over(&mut self.writers[at], to);
         self.sets.skip(place);
         stamp(&mut self.outline, moment);
         Ok(())
     }
 
     // A writer is lost: its registrations end, and its open set is broken.
-    fn lose(&mut self, alloc: Global, moment: Ticks, writer: Guid) -> Result<(), OutOfMemory>
+    fn lose(&mut self, moment: Ticks, writer: Guid) -> Result<(), OutOfMemory>
         ensures ok { OnOk result ((h : History) → Keeps self.old h
             → Follows h (Loses moment writer)
             → Keeps self.new (h ▸ Loses moment writer)) }
         ensures err { OnErr result ((h : History) → Keeps self.old h → Keeps self.new h) }
+        ensures memory { (h : History) → Keeps self.old h → Follows h (Loses moment writer)
+            → IsOk result }
     {
         let Some(place) = place_of(&self.index, writer) else {
             return Err(OutOfMemory);
@@ -313,7 +349,7 @@ impl Store {
         }
         let taken = later(moment, self.topics[topic].last());
         self.topics[topic].lost(taken, place);
-        let_go(&mut self.writers[at], alloc);
+        let_go(&mut self.writers[at]);
         self.sets.lost(place);
         stamp(&mut self.outline, moment);
         Ok(())

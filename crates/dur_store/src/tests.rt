@@ -186,7 +186,7 @@ fn admit_of(
         Ok(()) => {}
         Err(_) => return Some(Refuse::OutOfMemory),
     }
-    match store.admit(alloc, entry(moment, writer, number, step)) {
+    match store.admit(entry(moment, writer, number, step)) {
         Ok(()) => None,
         Err((refuse, _)) => Some(refuse),
     }

@@ -1,10 +1,16 @@
 //! What is kept of a writer.
 
-ghost use Rattle.std.specs.Prelude.{◌≡◌, ◌+◌, ◌-◌, ◌^◌, ◌<◌, [], map, IfOk};
+ghost use Rattle.std.specs.Prelude.{◌≡◌, ◌+◌, ◌-◌, ◌^◌, ◌<◌, ◌≤◌, ◌++◌, [], map, IfOk, IfErr, IsOk, OnOk};
+ghost use Rattle.dur_sets.specs.Tells.{closed, if_now};
+ghost use Rattle.dur_store.specs.Members.{IsPassed};
+ghost use Rattle.dur_store.specs.Taking.{IsWhole};
 ghost use Rattle.dur_store.specs.Parts.{line_of};
 
-use dur_base::{Guid, List, Number, OutOfMemory};
-use dur_view::{Held, KeptWriter};
+use crate::members::Members;
+use dur_base::{Guid, List, Number, OutOfMemory, Sample, Ticks};
+use dur_instances::Instances;
+use dur_sets::Effect;
+use dur_view::{KeptWriter, Limit};
 use std::alloc::Global;
 
 /// What is kept of a writer.
@@ -15,8 +21,8 @@ pub struct Writer {
     pub topic: u32,
     /// The number after its last handled one.
     pub next: Number,
-    /// The members of its open coherent set (DDS 2.2.3.6), in the order of their numbers.
-    pub held: Vec<Held>,
+    /// The members of its open coherent set (DDS 2.2.3.6).
+    pub held: Members,
 }
 
 /// The writers of a view.
@@ -29,7 +35,7 @@ pub fn writers_of(alloc: Global, lines: List<KeptWriter>) -> Result<Vec<Writer>,
             guid: line.guid,
             topic: line.topic,
             next: line.next,
-            held: line.held.into_vec(),
+            held: Members::of_list(alloc, line.held)?,
         };
         match writers.push(writer) {
             Ok(()) => {}
@@ -39,16 +45,6 @@ pub fn writers_of(alloc: Global, lines: List<KeptWriter>) -> Result<Vec<Writer>,
     Ok(writers)
 }
 
-fn members_of(alloc: Global, held: &[Held]) -> Result<List<Held>, OutOfMemory>
-    ensures { IfOk result (λ l. l ≡ held.now) }
-{
-    let mut members = List::new(alloc);
-    for member in held {
-        members.push(member.copy()?)?;
-    }
-    Ok(members)
-}
-
 fn line_of(alloc: Global, writer: &Writer) -> Result<KeptWriter, OutOfMemory>
     ensures { IfOk result (λ l. l ≡ line_of writer.now) }
 {
@@ -56,7 +52,7 @@ fn line_of(alloc: Global, writer: &Writer) -> Result<KeptWriter, OutOfMemory>
         guid: writer.guid,
         topic: writer.topic,
         next: writer.next,
-        held: members_of(alloc, &writer.held)?,
+        held: writer.held.list(alloc)?,
     })
 }
 
@@ -71,18 +67,53 @@ pub fn lines_of(alloc: Global, writers: &[Writer]) -> Result<List<KeptWriter>, O
     Ok(lines)
 }
 
-/// Numbers of the writer are passed over, up to one: it holds no member then.
-pub fn pass_over(writer: &mut Writer, alloc: Global, to: Number)
-    requires { to < 2 ^ 63 - 1 }
-    ensures { line_of writer.new ≡ record (line_of writer.old) { next = to + 1; held = [] } }
+/// The writer has room for one member more.
+pub fn spare(writer: &mut Writer) -> Result<(), OutOfMemory>
+    ensures line { line_of writer.new ≡ line_of writer.old }
+    ensures room { OnOk result (0 < writer.new.held.room) }
+    ensures stays { writer.old.held.room ≤ writer.new.held.room }
+    ensures enough { 0 < writer.old.held.room → IsOk result }
 {
-    writer.held = Vec::new(alloc);
+    writer.held.reserve(1)
+}
+
+/// Numbers of the writer are passed over, up to one: it holds no member then.
+pub fn pass_over(writer: &mut Writer, to: Number)
+    requires { to < 2 ^ 63 - 1 }
+    ensures line { line_of writer.new ≡ record (line_of writer.old) { next = to + 1; held = [] } }
+    ensures room { writer.old.held.room ≤ writer.new.held.room }
+{
+    writer.held.clear();
     writer.next = to.next();
 }
 
 /// The writer holds no member then.
-pub fn let_go(writer: &mut Writer, alloc: Global)
-    ensures { line_of writer.new ≡ record (line_of writer.old) { held = [] } }
+pub fn let_go(writer: &mut Writer)
+    ensures line { line_of writer.new ≡ record (line_of writer.old) { held = [] } }
+    ensures room { writer.old.held.room ≤ writer.new.held.room }
 {
-    writer.held = Vec::new(alloc);
+    writer.held.clear();
+}
+
+/// The first limit that the topic passes when what the writer's next sample brings took effect, with no member held. The
+/// sample is handed back, and nothing changed but room.
+pub fn would_pass(
+    writer: &mut Writer,
+    topic: &Instances,
+    moment: Ticks,
+    effect: &Effect,
+    sample: Sample,
+) -> Result<(Option<Limit>, Sample), Sample>
+    requires { topic.now.last ≤ moment }
+    ensures limit { IfOk result (λ a. IsWhole effect.entry.now.before writer.old.held.items
+        → IsPassed topic.now moment
+        (map (λ x. x.sample) (closed effect.entry.now.before writer.old.held.items)
+        ++ if_now effect.entry.now.now sample) a.0) }
+    ensures ok { IfOk result (λ a. a.1 ≡ sample) }
+    ensures err { IfErr result (λ back. back ≡ sample) }
+    ensures enough { 0 < writer.old.held.room → IsOk result }
+    ensures line { line_of writer.new ≡ line_of writer.old }
+    ensures room { writer.old.held.room ≤ writer.new.held.room }
+{
+    writer.held.would(topic, moment, effect, sample)
 }

@@ -1,5 +1,6 @@
 use Rattle.std.proofs.Common.{◌≡◌, ◌+◌, ◌<◌, ◌++◌, [], ◌∷◌, Some, None, List, length, drop, true, sym, ap, ◌∙◌, subst, arith, rules}
 use Rattle.std.specs.Prelude.{slice_get, is_some}
+use Rattle.dur_instances.specs.declared.cells.Cell.{Cell}
 use Rattle.dur_instances.specs.declared.changes.Change.{Change}
 use Rattle.dur_instances.specs.declared.tallies.Tally.{Tally}
 use Rattle.dur_instances.specs.Layout.{cell_in, left_of, cells_there, kept_shown, all_shown}
@@ -18,7 +19,7 @@ show-requires-clause-known c =
     let i = c.loop-place.place-index in
     let p = c.place-item.result in
     let lt : i < length c.args.places.now = search rules in
-    let left : left_at c.args.cells.now c.args.longest c.args.now p.change ≡ Some c.in-Some.change.now = sym c.in-Some.ensures in
+    let left : left_at c.args.cells.now c.args.longest c.args.now p.change ≡ Some c.in-Some.change.now = sym (c.in-Some.ensures ∙ ap (λ (l : List Cell). left_at l c.args.longest c.args.now p.change) c.sorted.ensures) in
     each-kept (λ (x : Change). is_some (cell_in c.args.cells.now x.sample.key) ≡ true) c.args.places.now i p c.in-Some.change.now c.requires lt c.place-item.is
     (left-some c.args.cells.now c.args.longest c.args.now p.change c.in-Some.change.now left).kept
 
@@ -55,6 +56,7 @@ loop-place-preserved c =
     let left = left_of cells longest now (kept_in ps) in
     let rest : List Change = left_of cells longest now (kept_in (drop (i + 1) ps)) in
     let lt : i < length ps = search rules in
+    let same = ap (λ (l : List Cell). left_at l longest now p.change) c.sorted.ensures in
     let step : left_of cells longest now (kept_in (drop i ps)) ≡ with_change (left_at cells longest now p.change) rest =
     ap (left_of cells longest now) (kept-at ps i p lt c.place-item.is) ∙ left-with cells longest now p.change (kept_in (drop (i + 1) ps)) in
     let next = seen-next cells longest now ps i p lt c.place-item.is in
@@ -62,7 +64,7 @@ loop-place-preserved c =
     elim c.match-left_at.branch [
       | in-Some+in_ok-show-in-Some w ↦
           let x = w.in-Some.change.now in
-          let one : left_at cells longest now p.change ≡ Some x = sym w.in-Some.ensures in
+          let one : left_at cells longest now p.change ≡ Some x = sym (w.in-Some.ensures ∙ same) in
           let so = left-some cells longest now p.change x one in
           let more : seen cells longest now ps i ++ x ∷ [] ≡ seen cells longest now ps (i + 1) = ap (with_end (seen cells longest now ps i)) (sym one) ∙ next in
           let spots = w.deref.ensures.value ∙ c.in_ok-spots.ensures ∙ ap (spots_of longest now 0) c.as_slice.ensures.value in
@@ -75,12 +77,12 @@ loop-place-preserved c =
             before = ap (λ v. v.items) w.before-is ∙ w.count_change.ensures (seen cells longest now ps i) c.loop-place.invariant.before ∙ ap (tallies_of cells) more;
           }
       | in-None w ↦
-          let none : left_at cells longest now p.change ≡ None = sym w.in-None.ensures in
-          let same : seen cells longest now ps i ≡ seen cells longest now ps (i + 1) = ap (with_end (seen cells longest now ps i)) (sym none) ∙ next in
+          let none : left_at cells longest now p.change ≡ None = sym (w.in-None.ensures ∙ same) in
+          let stays : seen cells longest now ps i ≡ seen cells longest now ps (i + 1) = ap (with_end (seen cells longest now ps i)) (sym none) ∙ next in
           record {
             all = all ∙ ap (λ o. c.loop-place.list ++ all_shown c.args.depth cells there left (seen cells longest now ps i) (with_change o rest)) none
                 ∙ ap (λ (l : List Kept). l ++ all_shown c.args.depth cells there left (seen cells longest now ps i) rest) (sym w.list-is)
-                ∙ ap (λ (l : List Change). c.match-left_at.list ++ all_shown c.args.depth cells there left l rest) same;
-            before = ap (λ v. v.items) w.before-is ∙ c.loop-place.invariant.before ∙ ap (tallies_of cells) same;
+                ∙ ap (λ (l : List Change). c.match-left_at.list ++ all_shown c.args.depth cells there left l rest) stays;
+            before = ap (λ v. v.items) w.before-is ∙ c.loop-place.invariant.before ∙ ap (tallies_of cells) stays;
           }
     ]

@@ -1,0 +1,17 @@
+use Rattle.std.proofs.Common.{Some, None, false, ap, ◌∙◌}
+use Rattle.std.specs.Prelude.{option_map, unwrap_or}
+use Rattle.dur_view.specs.Fates.{is_long}
+use Rattle.dur_instances.specs.Table.{CellsNow}
+use Rattle.dur_instances.proofs.ByKey.{found-in}
+use Rattle.dur_instances.proofs.table.Cells.is_purged.Goals as goal
+
+pub returns-in-Some : goal.returns-in-Some
+returns-in-Some c =
+    c.is_long.ensures
+    ∙ ap (λ o. unwrap_or (option_map (λ x. is_long x.quiet c.args.longest c.args.now) o) false)
+    (found-in c.key.inside.0 c.args.key c.self.inside.map.entries c.args.self.now.list (Some c.in-Some.state.now) c.key.view_is c.in-Some.ensures.value (ap (λ (v : CellsNow). v.list) c.self.view_is))
+
+pub returns-in-None : goal.returns-in-None
+returns-in-None c =
+    ap (λ o. unwrap_or (option_map (λ x. is_long x.quiet c.args.longest c.args.now) o) false)
+    (found-in c.key.inside.0 c.args.key c.self.inside.map.entries c.args.self.now.list None c.key.view_is c.in-None.ensures.value (ap (λ (v : CellsNow). v.list) c.self.view_is))
