@@ -11,11 +11,8 @@ work=$(mktemp -d)
 trap 'rm -rf "$work"' EXIT
 
 mkdir -p "$work/crates/capture_bench/src"
-for crate in dur_base dur_capture; do
-    mkdir "$work/crates/$crate"
-    cp -r "crates/$crate/src" "crates/$crate/specs" "crates/$crate/proofs" "$work/crates/$crate/"
-done
-printf '%s\n' 'dur_base: bytes' 'dur_capture: bytes dur_base' 'capture_bench: dur_capture' > "$work/crates.txt"
+tests/take_crates.sh "$work" dur_capture
+echo 'capture_bench: dur_capture' >> "$work/crates.txt"
 cat > "$work/crates/capture_bench/src/main.rt" <<'PROGRAM'
 //! Reads a capture from its input, hands it on in pieces of so many octets, and prints how many records it has.
 #![tactic(auto)]

@@ -15,11 +15,7 @@ work="$(mktemp -d)"
 trap 'rm -rf "$work"' EXIT
 
 mkdir -p "$work/crates/frag_bench/src"
-for crate in dur_base rtps_params rtps_submsg rtps_message rtps_frag; do
-    mkdir -p "$work/crates/$crate"
-    cp -r "$top/crates/$crate"/{src,specs,proofs} "$work/crates/$crate/"
-    grep -E "^$crate[ :]" "$top/crates.txt" >> "$work/crates.txt"
-done
+"$top/tests/take_crates.sh" "$work" rtps_frag
 echo 'frag_bench: rtps_frag dur_base' >> "$work/crates.txt"
 git -C "$work" init -q
 

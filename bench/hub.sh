@@ -18,15 +18,7 @@ work="$(mktemp -d)"
 trap 'rm -rf "$work"' EXIT
 
 mkdir -p "$work/crates/hub_bench/src"
-for crate in dur_base dur_qos dur_view dur_sets dur_instances dur_store dur_hub rel_reader rtps_message rtps_params rtps_submsg; do
-    mkdir -p "$work/crates/$crate"
-    cp -r "$top/crates/$crate"/{src,specs,proofs} "$work/crates/$crate/"
-    if [ -d "$top/crates/$crate/out/rlib" ]; then
-        mkdir "$work/crates/$crate/out"
-        cp -r "$top/crates/$crate/out/rlib" "$work/crates/$crate/out/"
-    fi
-    grep -E "^$crate[ :]" "$top/crates.txt" >> "$work/crates.txt"
-done
+"$top/tests/take_crates.sh" "$work" dur_hub rtps_message
 echo 'hub_bench: dur_base dur_hub dur_qos dur_store dur_view rtps_message bytes' >> "$work/crates.txt"
 git -C "$work" init -q
 

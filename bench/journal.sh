@@ -14,15 +14,7 @@ files=$(mktemp -d "${1:-$work}/journal.XXXXXX")
 trap 'rm -rf "$work" "$files"' EXIT
 
 mkdir -p "$work/crates/journal_bench/src"
-for crate in dur_base dur_outside dur_qos dur_record dur_store dur_view dur_journal; do
-    mkdir "$work/crates/$crate"
-    cp -r "crates/$crate/src" "crates/$crate/specs" "crates/$crate/proofs" "$work/crates/$crate/"
-    if [ -d "crates/$crate/out/rlib" ]; then
-        mkdir "$work/crates/$crate/out"
-        cp -r "crates/$crate/out/rlib" "$work/crates/$crate/out/"
-    fi
-    grep -E "^$crate:" crates.txt >> "$work/crates.txt"
-done
+tests/take_crates.sh "$work" dur_journal
 echo 'journal_bench: bytes dur_base dur_journal dur_outside dur_qos dur_record dur_view' >> "$work/crates.txt"
 cat > "$work/crates/journal_bench/src/main.rt" <<'PROGRAM'
 //! Opens the journal of the files of a folder, and commits the batches of its input until a store would compact. It

@@ -16,11 +16,7 @@ work="$(mktemp -d)"
 trap 'rm -rf "$work"' EXIT
 
 mkdir -p "$work/crates/proxy_bench/src"
-for crate in dur_base rel_reader; do
-    mkdir -p "$work/crates/$crate"
-    cp -r "$top/crates/$crate"/{src,specs,proofs} "$work/crates/$crate/"
-done
-grep -E '^(dur_base|rel_reader)[ :]' "$top/crates.txt" > "$work/crates.txt"
+"$top/tests/take_crates.sh" "$work" rel_reader
 echo 'proxy_bench: rel_reader dur_base bytes' >> "$work/crates.txt"
 git -C "$work" init -q
 

@@ -11,15 +11,7 @@ work=$(mktemp -d)
 trap 'rm -rf "$work"' EXIT
 
 mkdir -p "$work/crates/record_bench/src"
-for crate in dur_base dur_qos dur_view dur_record; do
-    mkdir "$work/crates/$crate"
-    cp -r "crates/$crate/src" "crates/$crate/specs" "crates/$crate/proofs" "$work/crates/$crate/"
-    if [ -d "crates/$crate/out/rlib" ]; then
-        mkdir "$work/crates/$crate/out"
-        cp -r "crates/$crate/out/rlib" "$work/crates/$crate/out/"
-    fi
-    grep -E "^$crate:" crates.txt >> "$work/crates.txt"
-done
+tests/take_crates.sh "$work" dur_record
 echo 'record_bench: bytes dur_base dur_record' >> "$work/crates.txt"
 cat > "$work/crates/record_bench/src/main.rt" <<'PROGRAM'
 //! Reads the view that its input is, and writes it again, eight times each, and prints the least time of both.

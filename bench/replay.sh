@@ -17,15 +17,7 @@ work="$(mktemp -d)"
 trap 'rm -rf "$work"' EXIT
 
 mkdir -p "$work/crates/replay_bench/src"
-for crate in dur_base dur_qos dur_view rel_reader rel_writer rtps_message rtps_params rtps_submsg; do
-    mkdir -p "$work/crates/$crate"
-    cp -r "$top/crates/$crate"/{src,specs,proofs} "$work/crates/$crate/"
-    if [ -d "$top/crates/$crate/out/rlib" ]; then
-        mkdir "$work/crates/$crate/out"
-        cp -r "$top/crates/$crate/out/rlib" "$work/crates/$crate/out/"
-    fi
-    grep -E "^$crate[ :]" "$top/crates.txt" >> "$work/crates.txt"
-done
+"$top/tests/take_crates.sh" "$work" rel_writer
 echo 'replay_bench: dur_base dur_view rel_writer rtps_message bytes' >> "$work/crates.txt"
 git -C "$work" init -q
 

@@ -12,12 +12,7 @@ work="$(mktemp -d)"
 trap 'rm -rf "$work"' EXIT
 
 mkdir -p "$work/crates/turn_bench"/{src,proofs/make_turns,proofs/split_all}
-for crate in dur_base dur_turn; do
-    mkdir -p "$work/crates/$crate"
-    cp -r "$top/crates/$crate"/{src,specs,proofs} "$work/crates/$crate/"
-done
-cp "$top/HANDLES" "$work/"
-grep -E '^(dur_base|dur_turn)[ :]' "$top/crates.txt" > "$work/crates.txt"
+"$top/tests/take_crates.sh" "$work" dur_turn
 echo 'turn_bench: dur_turn dur_base atomic_table' >> "$work/crates.txt"
 git -C "$work" init -q
 

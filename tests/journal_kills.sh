@@ -15,15 +15,7 @@ work=$(mktemp -d)
 trap 'rm -rf "$work"' EXIT
 
 mkdir -p "$work/crates/journal_kills/src" "$work/files"
-for crate in dur_base dur_outside dur_qos dur_record dur_store dur_view dur_journal; do
-    mkdir "$work/crates/$crate"
-    cp -r "crates/$crate/src" "crates/$crate/specs" "crates/$crate/proofs" "$work/crates/$crate/"
-    if [ -d "crates/$crate/out/rlib" ]; then
-        mkdir "$work/crates/$crate/out"
-        cp -r "crates/$crate/out/rlib" "$work/crates/$crate/out/"
-    fi
-    grep -E "^$crate:" crates.txt >> "$work/crates.txt"
-done
+tests/take_crates.sh "$work" dur_journal
 echo 'journal_kills: bytes dur_base dur_journal dur_outside dur_qos dur_record dur_view' >> "$work/crates.txt"
 cat > "$work/crates/journal_kills/src/main.rt" <<'PROGRAM'
 //! Opens the journal of the files of a folder, compacts it, and commits entries one after another. It prints what it

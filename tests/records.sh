@@ -12,15 +12,7 @@ work=$(mktemp -d)
 trap 'rm -rf "$work"' EXIT
 
 mkdir -p "$work/crates/record_faults/src"
-for crate in dur_base dur_qos dur_view dur_record; do
-    mkdir "$work/crates/$crate"
-    cp -r "crates/$crate/src" "crates/$crate/specs" "crates/$crate/proofs" "$work/crates/$crate/"
-    if [ -d "crates/$crate/out/rlib" ]; then
-        mkdir "$work/crates/$crate/out"
-        cp -r "crates/$crate/out/rlib" "$work/crates/$crate/out/"
-    fi
-    grep -E "^$crate:" crates.txt >> "$work/crates.txt"
-done
+tests/take_crates.sh "$work" dur_record
 echo 'record_faults: bytes dur_base dur_record' >> "$work/crates.txt"
 cat > "$work/crates/record_faults/src/main.rt" <<'PROGRAM'
 //! Prints what each text of its input is: good, or its first break.

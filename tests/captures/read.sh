@@ -21,19 +21,7 @@ fi
 
 copy=$(mktemp -d)
 trap 'rm -rf "$copy"' EXIT
-mkdir "$copy/crates"
-cp "$root/HANDLES" "$copy/"
-names="dur_base rtps_params rtps_submsg"
-case $crate in
-    rtps_frag) names="$names rtps_message rtps_frag" ;;
-esac
-for name in $names; do
-    grep "^$name:" "$root/crates.txt" >>"$copy/crates.txt"
-    mkdir "$copy/crates/$name"
-    for part in src specs proofs; do
-        cp -R "$root/crates/$name/$part" "$copy/crates/$name/"
-    done
-done
+"$root/tests/take_crates.sh" "$copy" "$crate"
 python3 "$here/$script" "$captures" "$@" >"$copy/crates/$crate/src/tests.rt"
 cd "$copy/crates/$crate"
 rt try --test
