@@ -13,8 +13,8 @@ use Rattle.dur_view.specs.declared.data.View.{View}
 use Rattle.dur_view.specs.Words.{is_same, writer_line, stands}
 use Rattle.dur_view.specs.Full.{first_line, new_writer, more_topics, full, blank}
 use Rattle.dur_view.specs.IsSound.{IsSound}
-use Rattle.dur_view.proofs.BlankViews.{blank-is}
-use Rattle.dur_view.proofs.BlankSound.{sound-blank}
+use Rattle.dur_view.proofs.Blanks.Places.{blank-is}
+use Rattle.dur_view.proofs.Blanks.Sound.{sound-blank}
 use Rattle.dur_hub.specs.Openings.{MayOpen}
 use Rattle.dur_hub.proofs.Guids.{same_true, same_is}
 use Rattle.dur_hub.proofs.Topics.{Among, found_in, same_name}

@@ -16,10 +16,10 @@ use Rattle.dur_view.specs.Past.{no_topic}
 use Rattle.dur_view.specs.Full.{topic_place, new_writer, more_topics, more_writers, places_of, full}
 use Rattle.dur_view.specs.History.{Start}
 use Rattle.dur_view.specs.IsSound.{IsSound}
-use Rattle.dur_view.proofs.SoundTests.{TopicsPass}
-use Rattle.dur_view.proofs.CountedTopics.{few-topics}
-use Rattle.dur_view.proofs.FullSound.{full-sound}
-use Rattle.dur_view.proofs.GoodTopics.{topics-pass}
+use Rattle.dur_view.proofs.Sound.Tests.{TopicsPass}
+use Rattle.dur_view.proofs.Filled.CountedTopics.{few-topics}
+use Rattle.dur_view.proofs.Filled.Sound.{full-sound}
+use Rattle.dur_view.proofs.Blanks.GoodTopics.{topics-pass}
 use Rattle.dur_hub.specs.Runs.{first_writer, opening}
 use Rattle.dur_hub.specs.GoodRuns.{GoodWriters, Out, Apart, IsGoodRun}
 use Rattle.dur_hub.specs.Openings.{HasOneTopic, MayOpen, WriterStands}

@@ -21,7 +21,7 @@ use Rattle.dur_qos.specs.declared.plan.Topic.{Topic}
 use Rattle.dur_view.specs.Identities.{Guid}
 use Rattle.dur_view.specs.Full.{nothing, full}
 use Rattle.dur_view.specs.IsSound.{IsSound}
-use Rattle.dur_view.proofs.TestsDecide.{passes-sound}
+use Rattle.dur_view.proofs.Sound.TestsDecide.{passes-sound}
 use Rattle.dur_hub.specs.GoodRuns.{IsGoodRun}
 use Rattle.dur_hub.specs.declared.event.End.TheVariants.{Waits}
 use Rattle.dur_hub.specs.declared.event.Step.{Step}

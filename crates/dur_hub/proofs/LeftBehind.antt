@@ -18,8 +18,8 @@ use Rattle.dur_view.specs.declared.change.TopicEvent.TheVariants.{Gone}
 use Rattle.dur_view.specs.Past.{Past, ◌▹▹◌, past}
 use Rattle.dur_view.specs.Fates.{without, registered, keys}
 use Rattle.dur_view.specs.IsSound.{IsSound, IsHistory}
-use Rattle.dur_view.proofs.SoundTests.{each_two}
-use Rattle.dur_view.proofs.TestsDecide.{sound-passes}
+use Rattle.dur_view.proofs.Sound.Tests.{each_two}
+use Rattle.dur_view.proofs.Sound.TestsDecide.{sound-passes}
 use Rattle.dur_hub.specs.declared.left_behind.Leaver.{Leaver}
 use Rattle.dur_hub.specs.Runs.{Run, Writer}
 use Rattle.dur_hub.specs.Leases.{is_registered, is_empty, is_there, is_left_behind, is_overdue, leavers, after_lease, at_moment}

@@ -23,8 +23,8 @@ use Rattle.dur_view.specs.Fates.{key_cmp, line_in}
 use Rattle.dur_view.specs.Persistent.{is_persistent, passes_at}
 use Rattle.dur_view.specs.Full.{new_writer, more_topics, more_writers, full}
 use Rattle.dur_view.specs.Sound.{EachKey, Ascending}
-use Rattle.dur_view.proofs.SoundTests.{PassesTests}
-use Rattle.dur_view.proofs.SoundViews.{sound_parts}
+use Rattle.dur_view.proofs.Sound.Tests.{PassesTests}
+use Rattle.dur_view.proofs.Sound.StartsAsked.{sound_parts}
 use Rattle.dur_hub.specs.declared.left_behind.Leaver.{Leaver}
 use Rattle.dur_hub.specs.Runs.{Run, opening}
 use Rattle.dur_hub.specs.Leases.{is_registered, is_empty, is_there, is_left_behind, leavers}

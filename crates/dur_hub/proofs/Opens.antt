@@ -11,7 +11,7 @@ use Rattle.dur_view.specs.declared.data.View.{View}
 use Rattle.dur_view.specs.Words.{topic_of}
 use Rattle.dur_view.specs.Past.{no_topic}
 use Rattle.dur_view.specs.Full.{places_of, full}
-use Rattle.dur_view.proofs.TestsDecide.{sound-passes}
+use Rattle.dur_view.proofs.Sound.TestsDecide.{sound-passes}
 use Rattle.dur_view.specs.History.{Start, next as next_in}
 use Rattle.dur_view.specs.Persistent.{is_persistent, passes_at}
 use Rattle.rel_reader.specs.Stories.{Begin}

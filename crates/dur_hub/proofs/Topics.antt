@@ -9,7 +9,7 @@ use Rattle.dur_qos.specs.declared.plan.Plan.{Plan}
 use Rattle.dur_qos.specs.declared.plan.Topic.{Topic}
 use Rattle.dur_qos.specs.Plan.{place_from, place_of}
 use Rattle.dur_view.specs.Full.{more_topics, topic_place}
-use Rattle.dur_view.proofs.SoundTests.{each_two}
+use Rattle.dur_view.proofs.Sound.Tests.{each_two}
 
 -- a topic is one of a list
 abbrev pub Among : Topic → List Topic → Type 0

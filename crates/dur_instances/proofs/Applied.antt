@@ -14,9 +14,9 @@ use Rattle.dur_view.specs.Past.{◌▹◌}
 use Rattle.dur_view.specs.Fates.{is_of, is_nobody, is_long, reaches, registered_by, disposes, time_of, has_fate, is_expired, count}
 use Rattle.dur_view.specs.Lines.{registered_after, quiet_after, disposed_after}
 use Rattle.dur_view.specs.Sound.{Ascending}
-use Rattle.dur_view.proofs.Base.{is_key-true}
-use Rattle.dur_view.proofs.Pairs.{is_key-refl}
-use Rattle.dur_view.proofs.Keys.{ascending-with}
+use Rattle.dur_view.proofs.Cutting.WhatIsKept.{is_key-true}
+use Rattle.dur_view.proofs.Cutting.FatesStay.{is_key-refl}
+use Rattle.dur_view.proofs.Histories.ExistingKeys.{ascending-with}
 use Rattle.dur_instances.specs.declared.cells.Cell.{Cell}
 use Rattle.dur_instances.specs.declared.registered.Registered.{Registered}
 use Rattle.dur_instances.specs.declared.changes.Change.{Change}
@@ -31,7 +31,7 @@ use Rattle.dur_instances.proofs.Follows.{RowsFollow, row_at-key, map-append, lat
 use Rattle.dur_instances.proofs.Laws.{forgets}
 use Rattle.dur_instances.proofs.Rows.{count-begun}
 use Rattle.dur_view.specs.Later.{SameFrom}
-use Rattle.dur_view.proofs.SameLaw.{same-trans}
+use Rattle.dur_view.proofs.Cutting.TwinsStay.{same-trans}
 
 -- the registered writers of each instance
 pub places-after : (act : Act) (one : Registered) (regs : List Registered) (k : Key) → InOrder regs → places (regs_after act one regs) k ≡ cond (is_key one.key k) (registered_by act one.by (places regs k)) (places regs k)

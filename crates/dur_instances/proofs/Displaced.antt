@@ -5,8 +5,8 @@ use Rattle.std.proofs.lemmas.Bool.{leb-true, le-leb}
 use Rattle.dur_view.specs.Identities.{Key}
 use Rattle.dur_view.specs.Words.{is_key}
 use Rattle.dur_view.specs.Fates.{reaches}
-use Rattle.dur_view.proofs.Base.{is_key-true}
-use Rattle.dur_view.proofs.Pairs.{is_key-refl}
+use Rattle.dur_view.proofs.Cutting.WhatIsKept.{is_key-true}
+use Rattle.dur_view.proofs.Cutting.FatesStay.{is_key-refl}
 use Rattle.dur_instances.specs.declared.cells.Cell.{Cell}
 use Rattle.dur_instances.specs.declared.changes.Change.{Change}
 use Rattle.dur_instances.specs.Kept.{EachLate, NotBefore, Falls}

@@ -12,12 +12,12 @@ use Rattle.dur_view.specs.Past.{Made, Past, ◌▹◌}
 use Rattle.dur_view.specs.Fates.{time_of, is_of, count, disposed, registered, quiet_since, is_quiet, is_nobody, is_purged, is_long, purged_upto, was_born, made_by}
 use Rattle.dur_view.specs.Lines.{registered_after, quiet_after, disposed_after}
 use Rattle.dur_view.specs.Later.{SameFrom}
-use Rattle.dur_view.proofs.Twins.{Same}
-use Rattle.dur_view.proofs.Pairs.{Good-step, Pair, Pairs, none, both, is_key-refl}
-use Rattle.dur_view.proofs.Base.{is_key-true, unborn}
-use Rattle.dur_view.proofs.Keys.{Ascending-step}
-use Rattle.dur_view.proofs.KeptChanges.{Ordered-step}
-use Rattle.dur_view.proofs.SameLaw.{twins-same}
+use Rattle.dur_view.proofs.Cutting.Twins.{Same}
+use Rattle.dur_view.proofs.Cutting.FatesStay.{Good-step, Pair, Pairs, none, both, is_key-refl}
+use Rattle.dur_view.proofs.Cutting.WhatIsKept.{is_key-true, unborn}
+use Rattle.dur_view.proofs.Histories.ExistingKeys.{Ascending-step}
+use Rattle.dur_view.proofs.Cutting.KeptChanges.{Ordered-step}
+use Rattle.dur_view.proofs.Cutting.TwinsStay.{twins-same}
 use Rattle.dur_instances.specs.Trimmed.{Row, Late, made_of_late, begun_by, row_in, row_at, blank_row, top}
 use Rattle.dur_instances.specs.Kept.{EachLate, IsOfRows, IsKept}
 use Rattle.dur_instances.specs.Steps.{is_row_quiet, row_after, late_after, late_by}

@@ -15,13 +15,13 @@ use Rattle.dur_view.specs.Fates.{settings, line_in, key_cmp, count, disposed, re
 use Rattle.dur_view.specs.IsSound.{IsSound}
 use Rattle.dur_view.specs.Sound.{Each, NotAfter, Rises, Listed, EachKey, Ascending, SoundPart}
 use Rattle.dur_view.specs.Later.{SameFrom}
-use Rattle.dur_view.proofs.Twins.{Same}
-use Rattle.dur_view.proofs.Pairs.{Pair, Pairs, none, both}
-use Rattle.dur_view.proofs.Base.{is_key-true}
-use Rattle.dur_view.proofs.SameLaw.{twins-same}
-use Rattle.dur_view.proofs.SoundTests.{PassesTests, each_two}
-use Rattle.dur_view.proofs.TestsDecide.{sound-passes}
-use Rattle.dur_view.proofs.SoundViews.{same-bool, all-found, all-filter, found-at, ascending, says-of, keyed, sound_parts}
+use Rattle.dur_view.proofs.Cutting.Twins.{Same}
+use Rattle.dur_view.proofs.Cutting.FatesStay.{Pair, Pairs, none, both}
+use Rattle.dur_view.proofs.Cutting.WhatIsKept.{is_key-true}
+use Rattle.dur_view.proofs.Cutting.TwinsStay.{twins-same}
+use Rattle.dur_view.proofs.Sound.Tests.{PassesTests, each_two}
+use Rattle.dur_view.proofs.Sound.TestsDecide.{sound-passes}
+use Rattle.dur_view.proofs.Sound.StartsAsked.{same-bool, all-found, all-filter, found-at, ascending, says-of, keyed, sound_parts}
 use Rattle.dur_instances.specs.declared.cells.Cell.{Cell}
 use Rattle.dur_instances.specs.declared.registered.Registered.{Registered}
 use Rattle.dur_instances.specs.declared.changes.Change.{Change}

@@ -6,9 +6,9 @@ use Rattle.dur_view.specs.Identities.{Key}
 use Rattle.dur_view.specs.Fates.{count, quiet_since, is_long, has_fate, keys}
 use Rattle.dur_view.specs.Sound.{Each, NotAfter, Rises, Listed, Ordered, Ascending}
 use Rattle.dur_view.specs.Later.{SameFrom}
-use Rattle.dur_view.proofs.Twins.{Same, Alike, Forgotten}
-use Rattle.dur_view.proofs.Pairs.{Good, Pair, Pairs, none, fated, both}
-use Rattle.dur_view.proofs.SameLaw.{twins-same}
+use Rattle.dur_view.proofs.Cutting.Twins.{Same, Alike, Forgotten}
+use Rattle.dur_view.proofs.Cutting.FatesStay.{Good, Pair, Pairs, none, fated, both}
+use Rattle.dur_view.proofs.Cutting.TwinsStay.{twins-same}
 use Rattle.dur_instances.specs.Trimmed.{Row, Late, line_of_row, made_of_late, begun_by, row_in, row_at, blank_row, top}
 use Rattle.dur_instances.specs.Kept.{EachLate, NotBefore, Falls, IsOfRows, IsKept}
 use Rattle.dur_instances.proofs.Rows.{disposed-begun, registered-begun, quiet-begun, born-begun, count-begun}

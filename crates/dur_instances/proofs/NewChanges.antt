@@ -11,7 +11,7 @@ use Rattle.dur_view.specs.declared.change.TopicEvent.{TopicEvent}
 use Rattle.dur_view.specs.declared.change.TopicEvent.TheVariants.{Effect}
 use Rattle.dur_view.specs.Past.{Made, Past, ◌▹◌, ◌▹▹◌}
 use Rattle.dur_view.specs.Fates.{settings, count, is_long, is_purged, is_purged_with, purged_upto, is_over_by, reaches, has_fate, made, told, entitled}
-use Rattle.dur_view.proofs.Pairs.{Good, Good-step, purged-below, is_key-refl}
+use Rattle.dur_view.proofs.Cutting.FatesStay.{Good, Good-step, purged-below, is_key-refl}
 use Rattle.dur_instances.specs.declared.cells.Cell.{Cell}
 use Rattle.dur_instances.specs.declared.registered.Registered.{Registered}
 use Rattle.dur_instances.specs.declared.changes.Change.{Change}

@@ -16,9 +16,9 @@ use Rattle.dur_view.specs.declared.change.TopicEvent.TheVariants.{Effect}
 use Rattle.dur_view.specs.Past.{Past, ◌▹◌, ◌▹▹◌}
 use Rattle.dur_view.specs.Fates.{key_cmp, with_key, keys, existing, exists, was_born, is_purged, is_long}
 use Rattle.dur_view.specs.Sound.{Ascending}
-use Rattle.dur_view.proofs.Pairs.{Good, Good-step, is_key-refl}
-use Rattle.dur_view.proofs.Base.{is_key-true, key-of-cmp, has_key, has_key-born}
-use Rattle.dur_view.proofs.Keys.{filter-with, Ascending-step}
+use Rattle.dur_view.proofs.Cutting.FatesStay.{Good, Good-step, is_key-refl}
+use Rattle.dur_view.proofs.Cutting.WhatIsKept.{is_key-true, key-of-cmp, has_key, has_key-born}
+use Rattle.dur_view.proofs.Histories.ExistingKeys.{filter-with, Ascending-step}
 use Rattle.dur_instances.specs.declared.cells.Cell.{Cell}
 use Rattle.dur_instances.specs.declared.registered.Registered.{Registered}
 use Rattle.dur_instances.specs.declared.changes.Change.{Change}

@@ -9,8 +9,8 @@ use Rattle.dur_view.specs.declared.change.TopicEvent.{TopicEvent}
 use Rattle.dur_view.specs.declared.change.TopicEvent.TheVariants.{Effect}
 use Rattle.dur_view.specs.Past.{Made, Past, ◌▹◌, ◌▹▹◌}
 use Rattle.dur_view.specs.Fates.{settings, delay, time_of, is_of, count, quiet_since, is_quiet, is_purged, is_long, purged_upto, reaches, is_expired, is_displaced, is_purged_with, has_fate}
-use Rattle.dur_view.proofs.Twins.{since_goes_on}
-use Rattle.dur_view.proofs.Pairs.{Good, Good-step, count-grows, is_some-long}
+use Rattle.dur_view.proofs.Cutting.Twins.{since_goes_on}
+use Rattle.dur_view.proofs.Cutting.FatesStay.{Good, Good-step, count-grows, is_some-long}
 use Rattle.dur_instances.specs.Would.{TakeEffect, none, one, later_in}
 
 pub count-many : (m : ℕ) (p : Past) (ss : List Sample) (es : List TopicEvent) (k : Key) → TakeEffect m ss es → count (p ▹▹ es) k ≡ count p k + later_in k ss

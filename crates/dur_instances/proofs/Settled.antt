@@ -18,7 +18,7 @@ use Rattle.dur_instances.specs.Trimmed.{Row, Late, row_in, row_at, blank_row}
 use Rattle.dur_instances.specs.Kept.{EachLate, Falls, IsOfRows, IsKept}
 use Rattle.dur_instances.specs.Steps.{is_row_quiet, row_after, late_after, late_by}
 use Rattle.dur_instances.specs.Layout.{row_of, rows_of, late_of, lates_of, cell_in, places, InOrder, count_in, raised, settled, settled_at, quiet_in, is_one, IsLaid}
-use Rattle.dur_view.proofs.Base.{is_key-true}
+use Rattle.dur_view.proofs.Cutting.WhatIsKept.{is_key-true}
 use Rattle.dur_instances.specs.Due.{purged_from, due_cells}
 use Rattle.dur_instances.proofs.CellLists.{row_in-cells, keys-rows, absent-cell}
 use Rattle.dur_instances.specs.Layout.{keys_of}

@@ -10,8 +10,8 @@ use Rattle.dur_view.specs.Identities.{Key}
 use Rattle.dur_view.specs.Words.{is_key}
 use Rattle.dur_view.specs.Fates.{key_cmp}
 use Rattle.dur_view.specs.Sound.{Ascending}
-use Rattle.dur_view.proofs.Base.{is_key-true, key-of-cmp}
-use Rattle.dur_view.proofs.Pairs.{is_key-refl}
+use Rattle.dur_view.proofs.Cutting.WhatIsKept.{is_key-true, key-of-cmp}
+use Rattle.dur_view.proofs.Cutting.FatesStay.{is_key-refl}
 use Rattle.dur_instances.specs.declared.cells.Cell.{Cell}
 use Rattle.dur_instances.specs.declared.table.State.{State}
 use Rattle.dur_instances.specs.Layout.{cell_in, keys_of}

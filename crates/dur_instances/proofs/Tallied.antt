@@ -8,7 +8,7 @@ use Rattle.std.proofs.lemmas.List.Sums.{sum_by-append, sum_by-cons, count_by-le-
 use Rattle.dur_view.specs.Identities.{Key}
 use Rattle.dur_view.specs.Words.{is_key}
 use Rattle.dur_view.specs.Sound.{Ascending}
-use Rattle.dur_view.proofs.Base.{is_key-true}
+use Rattle.dur_view.proofs.Cutting.WhatIsKept.{is_key-true}
 use Rattle.dur_instances.specs.declared.cells.Cell.{Cell}
 use Rattle.dur_instances.specs.declared.changes.Change.{Change}
 use Rattle.dur_instances.specs.declared.links.Place.{Place}

@@ -24,15 +24,15 @@ use Rattle.dur_view.specs.IsSound.{IsSound, IsHistory}
 use Rattle.dur_view.specs.View.{view}
 use Rattle.dur_view.specs.Full.{full, filled, nothing, more_topics, more_writers, new_writer}
 use Rattle.dur_view.specs.Persistent.{is_persistent, is_persistent_kind, passes_at, persistent_plan, persistent_view, persistent, HasPersistentPart}
-use Rattle.dur_view.proofs.StayingLists.{any-split, any-there, any-staying, few-stay}
-use Rattle.dur_view.proofs.FullViews.{filled-start, line-stays, full-view}
-use Rattle.dur_view.proofs.FullFollows.{follow-full, topic-under}
-use Rattle.dur_view.proofs.FullSound.{full-sound}
-use Rattle.dur_view.proofs.CountedTopics.{few-topics}
-use Rattle.dur_view.proofs.PersistentPlans.{persistent-good}
-use Rattle.dur_view.proofs.PersistentFull.{persistent-full}
-use Rattle.dur_view.proofs.ViewsAreSound.{sound-view}
-use Rattle.dur_view.proofs.TestsDecide.{passes-sound}
+use Rattle.dur_view.proofs.Persistence.StayingLists.{any-split, any-there, any-staying, few-stay}
+use Rattle.dur_view.proofs.Filled.Views.{filled-start, line-stays, full-view}
+use Rattle.dur_view.proofs.Filled.EntriesFollow.{follow-full, topic-under}
+use Rattle.dur_view.proofs.Filled.Sound.{full-sound}
+use Rattle.dur_view.proofs.Filled.CountedTopics.{few-topics}
+use Rattle.dur_view.proofs.Persistence.Plans.{persistent-good}
+use Rattle.dur_view.proofs.Persistence.OfFull.{persistent-full}
+use Rattle.dur_view.proofs.Sound.ViewsAreSound.{sound-view}
+use Rattle.dur_view.proofs.Sound.TestsDecide.{passes-sound}
 use Rattle.dur_journal.specs.Histories.{view_of, completed, IsWhole, blank_of, IsBase, Has}
 use Rattle.dur_journal.specs.Opening.{CanComplete, IsKeptView}
 use Rattle.dur_journal.proofs.Wholes.{filled_same, filled_more, history_more}

@@ -11,8 +11,8 @@ use Rattle.dur_view.specs.Persistent.{persistent, persistent_plan}
 use Rattle.dur_view.specs.declared.data.View.{View}
 use Rattle.dur_qos.specs.declared.plan.Plan.{Plan}
 use Rattle.dur_qos.specs.Good.{GoodPlan}
-use Rattle.dur_view.proofs.FullFollows.{follow-full}
-use Rattle.dur_view.proofs.PersistentPlans.{persistent-good}
+use Rattle.dur_view.proofs.Filled.EntriesFollow.{follow-full}
+use Rattle.dur_view.proofs.Persistence.Plans.{persistent-good}
 use Rattle.dur_journal.specs.Histories.{view_of, completed}
 use Rattle.dur_journal.specs.Opening.{CanComplete, IsKeptView}
 use Rattle.dur_journal.proofs.Completed.{completes}

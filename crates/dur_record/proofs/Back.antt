@@ -3,7 +3,7 @@ use Rattle.std.proofs.Common.{◌≡◌, ℕ, ◌-◌, ◌*◌, ◌^◌, ◌<◌
 use Rattle.std.specs.Prelude.{◌&&◌, ◌||◌, ◌==◌, not, is_some, nat_le}
 use Rattle.std.specs.Str.{bytes_eq}
 use Rattle.dur_view.specs.History.{History, ◌▸◌, start, moment, next, moment_of, writer_of, Follows, AllFollow}
-use Rattle.dur_view.proofs.SoundTests.{is_of_set}
+use Rattle.dur_view.proofs.Sound.Tests.{is_of_set}
 use Rattle.dur_view.specs.Words.{is_change, is_keyless, topic_of}
 use Rattle.dur_record.specs.declared.past.Wanted.{Wanted}
 use Rattle.dur_record.specs.declared.sample.Asks.{Asks}

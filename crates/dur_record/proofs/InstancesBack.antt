@@ -8,7 +8,7 @@ use Rattle.std.specs.Ordering.{is_lt}
 use Rattle.std.proofs.lemmas.Bool.{le-leb}
 use Rattle.dur_qos.specs.declared.plan.Topic.{Topic}
 use Rattle.dur_view.specs.Fates.{key_cmp, is_nobody}
-use Rattle.dur_view.proofs.SoundTests.{each_two}
+use Rattle.dur_view.proofs.Sound.Tests.{each_two}
 use Rattle.dur_view.specs.Words.{is_same_bool, at_most}
 use Rattle.dur_view.specs.Words.{is_keyless, is_key_of}
 use Rattle.dur_view.specs.declared.data.KeptWriter.{KeptWriter}

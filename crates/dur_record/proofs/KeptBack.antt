@@ -7,7 +7,7 @@ use Rattle.std.proofs.lemmas.Bool.{cases_Bool, le-leb, lt-ltb, ne_eqb}
 use Rattle.std.proofs.lemmas.Slice.Eq.{bytes_eq-Decides}
 use Rattle.dur_base.specs.Goodness.{IsGood}
 use Rattle.dur_view.specs.IsSound.{first_open}
-use Rattle.dur_view.proofs.SoundTests.{each_two, is_open_set}
+use Rattle.dur_view.proofs.Sound.Tests.{each_two, is_open_set}
 use Rattle.dur_view.specs.Words.{at_most}
 use Rattle.dur_view.specs.Words.{is_same, is_key, is_change}
 use Rattle.dur_view.specs.declared.data.Held.{Held}

@@ -16,7 +16,7 @@ use Rattle.dur_base.specs.declared.kinds.Durability.TheVariants.{Persistent}
 use Rattle.dur_qos.specs.Plan.{is_above}
 use Rattle.dur_qos.specs.Good.{IsLimit, IsGoodTopic}
 use Rattle.dur_qos.specs.declared.plan.Topic.{Topic}
-use Rattle.dur_view.proofs.SoundTests.{each_two, TopicsPass}
+use Rattle.dur_view.proofs.Sound.Tests.{each_two, TopicsPass}
 use Rattle.dur_record.specs.Grammar.{Row, items, Spells}
 use Rattle.dur_record.specs.Fields.{u32_if, octets_if}
 use Rattle.dur_record.specs.Views.{after, octets_of_name, name_row, shape_row, limit_of, limit_if, any_limit, delay_row, topic_row}

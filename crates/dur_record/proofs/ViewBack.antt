@@ -5,8 +5,8 @@ use Rattle.std.specs.List.{list_all, flat_map, AllByRecursion}
 use Rattle.std.proofs.lemmas.Bool.{le-leb}
 use Rattle.dur_base.specs.declared.kinds.Durability.TheVariants.{Persistent}
 use Rattle.dur_view.specs.IsSound.{IsSound}
-use Rattle.dur_view.proofs.SoundTests.{PassesTests}
-use Rattle.dur_view.proofs.TestsDecide.{sound-passes}
+use Rattle.dur_view.proofs.Sound.Tests.{PassesTests}
+use Rattle.dur_view.proofs.Sound.TestsDecide.{sound-passes}
 use Rattle.dur_view.specs.Words.{at_most}
 use Rattle.dur_view.specs.declared.data.View.{View}
 use Rattle.dur_record.specs.declared.version.Version.TheVariants.{Two}

@@ -2,8 +2,8 @@
 use Rattle.std.proofs.Common.{ℕ, ◌≤◌, List, [], length, sym, subst, arith}
 use Rattle.std.specs.Prelude.{nat_le}
 use Rattle.dur_view.specs.IsSound.{IsSound}
-use Rattle.dur_view.proofs.SoundTests.{PassesTests}
-use Rattle.dur_view.proofs.TestsDecide.{passes-sound}
+use Rattle.dur_view.proofs.Sound.Tests.{PassesTests}
+use Rattle.dur_view.proofs.Sound.TestsDecide.{passes-sound}
 use Rattle.dur_view.specs.declared.data.View.{View}
 use Rattle.dur_record.specs.declared.version.Version.{Version}
 use Rattle.dur_record.specs.Grammar.{Spells}

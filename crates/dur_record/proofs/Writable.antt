@@ -3,8 +3,8 @@ use Rattle.std.proofs.Common.{◌≡◌, ℕ, ◌+◌, ◌^◌, ◌<◌, ◌≤�
 use Rattle.std.specs.Prelude.{◌&&◌, nat_lt}
 use Rattle.std.specs.List.{list_all, AllByRecursion}
 use Rattle.dur_view.specs.IsSound.{IsSound}
-use Rattle.dur_view.proofs.SoundTests.{each_two, PassesTests}
-use Rattle.dur_view.proofs.TestsDecide.{sound-passes}
+use Rattle.dur_view.proofs.Sound.Tests.{each_two, PassesTests}
+use Rattle.dur_view.proofs.Sound.TestsDecide.{sound-passes}
 use Rattle.dur_view.specs.declared.data.Instance.{Instance}
 use Rattle.dur_view.specs.declared.data.View.{View}
 use Rattle.dur_record.specs.WholeTexts.{IsWritable}

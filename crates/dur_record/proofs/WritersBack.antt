@@ -7,7 +7,7 @@ use Rattle.std.specs.declared.option.Option.{Option}
 use Rattle.std.proofs.lemmas.Bool.{le-leb, lt-ltb}
 use Rattle.dur_base.specs.Goodness.{IsGood}
 use Rattle.dur_qos.specs.declared.plan.Topic.{Topic}
-use Rattle.dur_view.proofs.SoundTests.{each_two, is_of_set, run_to, is_open_set}
+use Rattle.dur_view.proofs.Sound.Tests.{each_two, is_of_set, run_to, is_open_set}
 use Rattle.dur_view.specs.Words.{is_same, is_keyless, is_key_of}
 use Rattle.dur_view.specs.declared.data.Held.{Held}
 use Rattle.dur_view.specs.declared.data.KeptWriter.{KeptWriter}

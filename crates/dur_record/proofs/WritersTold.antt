@@ -14,7 +14,7 @@ use Rattle.dur_base.specs.declared.sample.SetMark.{SetMark}
 use Rattle.dur_base.specs.declared.sample.SetMark.TheVariants.{NoSet, End, Of}
 use Rattle.dur_base.specs.declared.sample.Sample.{Sample}
 use Rattle.dur_qos.specs.declared.plan.Topic.{Topic}
-use Rattle.dur_view.proofs.SoundTests.{each_two, is_open_set, run_to, is_of_set}
+use Rattle.dur_view.proofs.Sound.Tests.{each_two, is_open_set, run_to, is_of_set}
 use Rattle.dur_view.specs.Words.{is_same, is_key, is_change, is_keyless, is_key_of}
 use Rattle.dur_view.specs.declared.data.Held.{Held}
 use Rattle.dur_view.specs.declared.data.KeptWriter.{KeptWriter}

@@ -19,9 +19,9 @@ use Rattle.dur_view.specs.History.{History, ◌▸◌, ◌+>◌, start, AllFollo
 use Rattle.dur_view.specs.Persistent.{is_persistent_kind, is_persistent, persistent_plan, persistent}
 use Rattle.dur_view.specs.View.{view}
 use Rattle.dur_view.specs.Stored.{stored, durable_part}
-use Rattle.dur_view.proofs.ViewsAreSound.{sound-view}
-use Rattle.dur_view.proofs.FullViews.{full-view}
-use Rattle.dur_view.proofs.PersistentHistories.{history-persistent}
+use Rattle.dur_view.proofs.Sound.ViewsAreSound.{sound-view}
+use Rattle.dur_view.proofs.Filled.Views.{full-view}
+use Rattle.dur_view.proofs.Persistence.Histories.{history-persistent}
 use Rattle.dur_journal.specs.Histories.{IsBase, IsWhole}
 use Rattle.dur_journal.proofs.Wholes.{filled_same}
 use Rattle.dur_journal.specs.declared.state.Journal.{Journal}

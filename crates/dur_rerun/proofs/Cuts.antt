@@ -13,10 +13,10 @@ use Rattle.dur_view.specs.IsSound.{IsSound, IsHistory}
 use Rattle.dur_view.specs.View.{view}
 use Rattle.dur_view.specs.Persistent.{persistent_view, persistent}
 use Rattle.dur_view.specs.Stored.{stored, durable_part, is_stored}
-use Rattle.dur_view.proofs.ViewFollows.{follows-view}
-use Rattle.dur_view.proofs.ViewLaw.{law_view}
-use Rattle.dur_view.proofs.SameEffects.{first_law}
-use Rattle.dur_view.proofs.PersistentHistories.{history-persistent}
+use Rattle.dur_view.proofs.Cutting.EntriesFollow.{follows-view}
+use Rattle.dur_view.proofs.Cutting.SameView.{law_view}
+use Rattle.dur_view.proofs.Cutting.SameEffects.{first_law}
+use Rattle.dur_view.proofs.Persistence.Histories.{history-persistent}
 use Rattle.dur_journal.specs.Histories.{view_of}
 use Rattle.dur_rerun.specs.Rerun.Kept.{AllFrom, IsCut, IsCutOf, CutBefore, IsBehind}
 

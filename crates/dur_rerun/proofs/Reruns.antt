@@ -12,7 +12,7 @@ use Rattle.dur_view.specs.declared.data.View.{View}
 use Rattle.dur_view.specs.History.{Start}
 use Rattle.dur_view.specs.Full.{full}
 use Rattle.dur_view.specs.Persistent.{persistent_view}
-use Rattle.dur_view.proofs.PersistentFull.{persistent-full}
+use Rattle.dur_view.proofs.Persistence.OfFull.{persistent-full}
 use Rattle.dur_journal.specs.declared.state.Journal.{Journal}
 use Rattle.dur_journal.specs.declared.state.Opened.{Opened as Found}
 use Rattle.dur_journal.specs.Histories.{IsWhole}

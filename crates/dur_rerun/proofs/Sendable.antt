@@ -34,19 +34,19 @@ use Rattle.dur_view.specs.Fates.{made, told, has_fate, keys}
 use Rattle.dur_view.specs.Full.{full, more_topics, more_writers, new_writer, topic_place}
 use Rattle.dur_view.specs.Snapshot.{change_of}
 use Rattle.dur_view.specs.Sound.{Each, EachKey, Listed}
-use Rattle.dur_view.proofs.Base.{has_key, has_key-born, is_key-true}
-use Rattle.dur_view.proofs.FullViews.{sound-of}
-use Rattle.dur_view.proofs.GoodTopics.{topics-pass}
-use Rattle.dur_view.proofs.KeptChanges.{Each-filter}
-use Rattle.dur_view.proofs.Parts.{Ordered-past}
-use Rattle.dur_view.proofs.SoundKeptPast.{IsGoodChange}
-use Rattle.dur_view.proofs.SoundKeptStarts.{Proper-past}
-use Rattle.dur_view.proofs.SoundNumbersBounds.{bound, open_from}
-use Rattle.dur_view.proofs.SoundNumbersPast.{numbers-past, below-past}
-use Rattle.dur_view.proofs.SoundNumbersStart.{Known}
-use Rattle.dur_view.proofs.SoundTests.{is_of_set, is_open_set, run_to}
-use Rattle.dur_view.proofs.SoundViews.{sound_parts}
-use Rattle.dur_view.proofs.SoundWriterLaws.{set-of}
+use Rattle.dur_view.proofs.Cutting.WhatIsKept.{has_key, has_key-born, is_key-true}
+use Rattle.dur_view.proofs.Filled.Views.{sound-of}
+use Rattle.dur_view.proofs.Blanks.GoodTopics.{topics-pass}
+use Rattle.dur_view.proofs.Cutting.KeptChanges.{Each-filter}
+use Rattle.dur_view.proofs.Cutting.SameEntitled.{Ordered-past}
+use Rattle.dur_view.proofs.Sound.KeptPast.{IsGoodChange}
+use Rattle.dur_view.proofs.Sound.KeptStarts.{Proper-past}
+use Rattle.dur_view.proofs.Sound.NumbersBounds.{bound, open_from}
+use Rattle.dur_view.proofs.Sound.NumbersPast.{numbers-past, below-past}
+use Rattle.dur_view.proofs.Sound.NumbersStart.{Known}
+use Rattle.dur_view.proofs.Sound.Tests.{is_of_set, is_open_set, run_to}
+use Rattle.dur_view.proofs.Sound.StartsAsked.{sound_parts}
+use Rattle.dur_view.proofs.Sound.Writers.{set-of}
 use Rattle.dur_hub.specs.declared.event.Event.{Event}
 use Rattle.dur_hub.specs.declared.event.Event.TheVariants as call
 use Rattle.dur_hub.specs.declared.event.Step.{Step}

@@ -13,12 +13,12 @@ use Rattle.dur_view.specs.declared.data.View.{View}
 use Rattle.dur_view.specs.Words.{is_same, writer_line, stands}
 use Rattle.dur_view.specs.History.{History, Start, ◌▸◌, start, writer_of, held, held_by, next}
 use Rattle.dur_view.specs.IsSound.{IsSound, IsHistory, FollowEachOther}
-use Rattle.dur_view.proofs.SoundTests.{each_two}
-use Rattle.dur_view.proofs.SameEffects.{is_same-true}
-use Rattle.dur_view.proofs.FullViews.{sound-of}
-use Rattle.dur_view.proofs.SoundWriterLaws.{own-lines, set-of}
-use Rattle.dur_view.proofs.SoundNumbersBounds.{is_same-refl}
-use Rattle.dur_view.proofs.OpenSets.{decides-open}
+use Rattle.dur_view.proofs.Sound.Tests.{each_two}
+use Rattle.dur_view.proofs.Cutting.SameEffects.{is_same-true}
+use Rattle.dur_view.proofs.Filled.Views.{sound-of}
+use Rattle.dur_view.proofs.Sound.Writers.{own-lines, set-of}
+use Rattle.dur_view.proofs.Sound.NumbersBounds.{is_same-refl}
+use Rattle.dur_view.proofs.Sound.OpenSets.{decides-open}
 use Rattle.dur_base.specs.declared.sample.Sample.{Sample}
 use Rattle.dur_base.specs.declared.sample.SetMark.{SetMark}
 use Rattle.dur_view.specs.History.{joined}

@@ -22,7 +22,7 @@ use Rattle.dur_view.specs.IsSound.{IsHistory}
 use Rattle.dur_view.specs.Fates.{Told}
 use Rattle.dur_view.specs.View.{line_after}
 use Rattle.dur_view.specs.Refused.{is_over, passed, held_in}
-use Rattle.dur_view.proofs.FullViews.{sound-of}
+use Rattle.dur_view.proofs.Filled.Views.{sound-of}
 use Rattle.dur_instances.specs.Would.{TakeEffect, none, one}
 use Rattle.dur_sets.specs.declared.effect.Effect.{Effect as Answer}
 use Rattle.dur_sets.specs.declared.effect.Now.{Now}

@@ -2,7 +2,7 @@
 use Rattle.std.proofs.Common.{refl, arith}
 use Rattle.dur_view.specs.Full.{nothing}
 use Rattle.dur_view.specs.IsSound.{IsSound}
-use Rattle.dur_view.proofs.TestsDecide.{passes-sound}
+use Rattle.dur_view.proofs.Sound.TestsDecide.{passes-sound}
 
 pub nothing_sound : IsSound nothing
 nothing_sound = passes-sound nothing (record {

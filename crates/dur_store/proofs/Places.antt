@@ -13,7 +13,7 @@ use Rattle.dur_view.specs.Identities.{Guid}
 use Rattle.dur_view.specs.Words.{is_same, writer_line, stands, place_in, topic_of}
 use Rattle.dur_view.specs.declared.data.KeptWriter.{KeptWriter}
 use Rattle.dur_view.specs.declared.data.View.{View}
-use Rattle.dur_view.proofs.SoundTests.{each_two}
+use Rattle.dur_view.proofs.Sound.Tests.{each_two}
 use Rattle.dur_store.specs.Places.{guids, IsPlaceOf, HasNone, IsPlace, found, IsIndex}
 
 same_true : (a b : Guid) → a ≡ b → is_same a b ≡ true

@@ -17,7 +17,7 @@ use Rattle.dur_view.specs.Past.{Past, ◌▹▹◌, past, no_topic}
 use Rattle.dur_view.specs.Fates.{settings}
 use Rattle.dur_view.specs.View.{line_after}
 use Rattle.dur_view.specs.Refused.{is_over, held_in, limit_of, refused}
-use Rattle.dur_view.proofs.Parts.{settings-past}
+use Rattle.dur_view.proofs.Cutting.SameEntitled.{settings-past}
 use Rattle.dur_instances.specs.Trimmed.{Trimmed}
 use Rattle.dur_instances.specs.Stands.{Stands}
 use Rattle.dur_instances.specs.Would.{TakeEffect}

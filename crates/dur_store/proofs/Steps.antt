@@ -15,10 +15,10 @@ use Rattle.dur_view.specs.History.{History, ◌▸◌, start, moment, moment_of,
 use Rattle.dur_view.specs.IsSound.{IsHistory}
 use Rattle.dur_view.specs.Past.{past, ◌▹▹◌}
 use Rattle.dur_view.specs.View.{line_after}
-use Rattle.dur_view.proofs.SoundTests.{each_two}
-use Rattle.dur_view.proofs.FullViews.{sound-of}
-use Rattle.dur_view.proofs.SameEffects.{is_same-true}
-use Rattle.dur_view.proofs.SoundNumbersBounds.{is_same-refl}
+use Rattle.dur_view.proofs.Sound.Tests.{each_two}
+use Rattle.dur_view.proofs.Filled.Views.{sound-of}
+use Rattle.dur_view.proofs.Cutting.SameEffects.{is_same-true}
+use Rattle.dur_view.proofs.Sound.NumbersBounds.{is_same-refl}
 use Rattle.dur_instances.specs.Trimmed.{Trimmed}
 use Rattle.dur_instances.specs.Stands.{Stands as Tells}
 use Rattle.dur_base.specs.declared.sample.Sample.{Sample}

@@ -8,7 +8,7 @@ use Rattle.dur_view.specs.declared.data.KeptWriter.{KeptWriter}
 use Rattle.dur_view.specs.declared.change.TopicEvent.{TopicEvent}
 use Rattle.dur_view.specs.declared.change.TopicEvent.TheVariants.{Effect}
 use Rattle.dur_view.specs.Past.{Past, ◌▹▹◌}
-use Rattle.dur_view.proofs.SameEffects.{add_append}
+use Rattle.dur_view.proofs.Cutting.SameEffects.{add_append}
 use Rattle.dur_instances.specs.Trimmed.{Trimmed}
 use Rattle.dur_instances.specs.Stands.{Stands}
 use Rattle.dur_sets.specs.declared.effect.Effect.{Effect as Answer}

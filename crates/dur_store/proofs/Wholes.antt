@@ -22,7 +22,7 @@ use Rattle.std.proofs.Common.{Result, Ok, Err}
 use Rattle.std.specs.Prelude.{IfOk}
 use Rattle.dur_base.specs.declared.memory.OutOfMemory.{OutOfMemory}
 use Rattle.dur_view.specs.Persistent.{persistent_view, persistent}
-use Rattle.dur_view.proofs.PersistentViews.{persistent-view}
+use Rattle.dur_view.proofs.Persistence.Views.{persistent-view}
 use Rattle.dur_store.specs.declared.store.Store.{Store}
 use Rattle.dur_store.specs.Keeps.{Keeps}
 use Rattle.dur_store.specs.Parts.{moved, IsTopic, AreTopics, AreAll}

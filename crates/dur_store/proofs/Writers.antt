@@ -11,9 +11,9 @@ use Rattle.dur_view.specs.Words.{is_same, writer_line, stands}
 use Rattle.dur_view.specs.History.{History, Start, ◌▸◌, start, next, held}
 use Rattle.dur_view.specs.IsSound.{IsSound, IsHistory}
 use Rattle.dur_view.specs.View.{line_after}
-use Rattle.dur_view.proofs.SameEffects.{is_same-true}
-use Rattle.dur_view.proofs.FullViews.{sound-of}
-use Rattle.dur_view.proofs.SoundWriterLaws.{own-lines}
+use Rattle.dur_view.proofs.Cutting.SameEffects.{is_same-true}
+use Rattle.dur_view.proofs.Filled.Views.{sound-of}
+use Rattle.dur_view.proofs.Sound.Writers.{own-lines}
 use Rattle.dur_store.specs.declared.writer.Writer.{Writer}
 use Rattle.dur_store.specs.Places.{guids, IsPlace}
 use Rattle.dur_store.specs.Parts.{line_of, AreWriters}

@@ -4,7 +4,7 @@ use Rattle.dur_view.specs.declared.limit.Limit.TheVariants.{Held}
 use Rattle.dur_view.specs.Past.{◌▹▹◌}
 use Rattle.dur_view.specs.Fates.{settings, existing, entitled}
 use Rattle.dur_view.specs.Refused.{passed as passed_by}
-use Rattle.dur_view.proofs.Parts.{settings-extend}
+use Rattle.dur_view.proofs.Cutting.SameEntitled.{settings-extend}
 use Rattle.dur_store.proofs.Counted.{passed-first, passed-rest}
 use Rattle.dur_store.proofs.limits.limit_with.Goals as goal
 

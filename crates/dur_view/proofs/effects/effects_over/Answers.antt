@@ -3,7 +3,7 @@ use Rattle.dur_view.specs.declared.change.TopicEvent.{TopicEvent}
 use Rattle.dur_view.specs.History.{Start, ◌+>◌, effects}
 use Rattle.dur_view.specs.Entitled.{brings_over}
 use Rattle.dur_view.specs.Extend.{extend-more}
-use Rattle.dur_view.proofs.SameEffects.{brings-over}
+use Rattle.dur_view.proofs.Cutting.SameEffects.{brings-over}
 use Rattle.dur_view.proofs.effects.effects_over.Goals as goal
 
 pub loop-at-preserved : goal.loop-at-preserved

@@ -1,7 +1,7 @@
 use Rattle.std.proofs.Common.{refl, sym, ◌∙◌}
 use Rattle.dur_view.specs.Past.{Begin, ◌▹▹◌, part}
-use Rattle.dur_view.proofs.LineLaws.{fate-is}
-use Rattle.dur_view.proofs.Parts.{settings-extend}
+use Rattle.dur_view.proofs.Histories.Lines.{fate-is}
+use Rattle.dur_view.proofs.Cutting.SameEntitled.{settings-extend}
 use Rattle.dur_view.proofs.fates.is_gone.Goals as goal
 
 pub returns : goal.returns

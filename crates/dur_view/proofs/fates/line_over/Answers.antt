@@ -3,7 +3,7 @@ use Rattle.dur_view.specs.declared.state.InstanceState.{InstanceState}
 use Rattle.dur_view.specs.Past.{Begin, ◌▹▹◌, part}
 use Rattle.dur_view.specs.Fates.{delay}
 use Rattle.dur_view.specs.Lines.{line_in_past, line_after_event}
-use Rattle.dur_view.proofs.LineLaws.{line-step, past-more, delay-extend, changes-after}
+use Rattle.dur_view.proofs.Histories.Lines.{line-step, past-more, delay-extend, changes-after}
 use Rattle.dur_view.proofs.fates.line_over.Goals as goal
 
 pub loop-event-preserved : goal.loop-event-preserved

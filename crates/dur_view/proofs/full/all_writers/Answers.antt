@@ -3,7 +3,7 @@ use Rattle.dur_qos.specs.declared.plan.WriterLine.{WriterLine}
 use Rattle.dur_view.specs.declared.data.KeptWriter.{KeptWriter}
 use Rattle.dur_view.specs.Words.{stands}
 use Rattle.dur_view.specs.Full.{new_writer}
-use Rattle.dur_view.proofs.FullWriters.{added-more, added-not}
+use Rattle.dur_view.proofs.Filled.Writers.{added-more, added-not}
 use Rattle.dur_view.proofs.full.all_writers.Goals as goal
 use Rattle.dur_view.proofs.full.all_writers.Goals.{then-is_new+in_ok-push, else-is_new}
 

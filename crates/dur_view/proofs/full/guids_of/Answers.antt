@@ -1,6 +1,6 @@
 use Rattle.std.proofs.Common.{true, cond, sym, ap, ◌∙◌}
 use Rattle.std.specs.Str.{bytes_eq}
-use Rattle.dur_view.proofs.FullWriters.{there-more}
+use Rattle.dur_view.proofs.Filled.Writers.{there-more}
 use Rattle.dur_view.proofs.full.guids_of.Goals as goal
 
 pub loop-writer-preserved : goal.loop-writer-preserved

@@ -1,4 +1,4 @@
-use Rattle.dur_view.proofs.LaterChanges.{later-changes}
+use Rattle.dur_view.proofs.Histories.LaterChanges.{later-changes}
 use Rattle.dur_view.proofs.law.counts_tell_later_changes.Goals as goal
 
 pub returns : goal.returns

@@ -1,5 +1,5 @@
-use Rattle.dur_view.proofs.PersistentSound.{persistent-sound}
-use Rattle.dur_view.proofs.PersistentHistories.{history-persistent}
+use Rattle.dur_view.proofs.Persistence.Sound.{persistent-sound}
+use Rattle.dur_view.proofs.Persistence.Histories.{history-persistent}
 use Rattle.dur_view.proofs.law.persistent_parts_are_histories.Goals as goal
 
 pub returns : goal.returns

@@ -1,4 +1,4 @@
-use Rattle.dur_view.proofs.PersistentViews.{persistent-view}
+use Rattle.dur_view.proofs.Persistence.Views.{persistent-view}
 use Rattle.dur_view.proofs.law.persistent_views_stand_for_histories.Goals as goal
 
 pub returns : goal.returns

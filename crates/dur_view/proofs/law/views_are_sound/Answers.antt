@@ -1,4 +1,4 @@
-use Rattle.dur_view.proofs.ViewsAreSound.{sound-view}
+use Rattle.dur_view.proofs.Sound.ViewsAreSound.{sound-view}
 use Rattle.dur_view.proofs.law.views_are_sound.Goals as goal
 
 pub returns : goal.returns

@@ -4,7 +4,7 @@ use Rattle.std.proofs.lemmas.List.{take_all}
 use Rattle.dur_view.specs.Identities.{Key}
 use Rattle.dur_view.specs.Past.{Begin, ◌▹▹◌, part}
 use Rattle.dur_view.specs.Fates.{is_purged}
-use Rattle.dur_view.proofs.LivingLaws.{existing-is}
+use Rattle.dur_view.proofs.Histories.Living.{existing-is}
 use Rattle.dur_view.proofs.limits.existing_over.Goals as goal
 
 pub returns : goal.returns

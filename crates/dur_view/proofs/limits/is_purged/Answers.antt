@@ -1,7 +1,7 @@
 use Rattle.std.proofs.Common.{refl, sym, ◌∙◌}
 use Rattle.dur_view.specs.Past.{Begin, ◌▹▹◌, part}
-use Rattle.dur_view.proofs.LivingLaws.{purged-told}
-use Rattle.dur_view.proofs.Parts.{settings-extend}
+use Rattle.dur_view.proofs.Histories.Living.{purged-told}
+use Rattle.dur_view.proofs.Cutting.SameEntitled.{settings-extend}
 use Rattle.dur_view.proofs.limits.is_purged.Goals as goal
 
 pub returns : goal.returns

@@ -6,7 +6,7 @@ use Rattle.dur_view.specs.Entitled.{brings_over}
 use Rattle.dur_view.specs.Fates.{told}
 use Rattle.dur_view.specs.Living.{all_made}
 use Rattle.dur_view.specs.Refused.{passed}
-use Rattle.dur_view.proofs.LimitLaws.{past-counted, limit-counted}
+use Rattle.dur_view.proofs.Histories.Limits.{past-counted, limit-counted}
 use Rattle.dur_view.proofs.limits.limit_of.Goals as goal
 
 pub returns : goal.returns

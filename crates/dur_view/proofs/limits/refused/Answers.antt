@@ -2,8 +2,8 @@ use Rattle.std.proofs.Common.{◌≤◌, length, sym, ◌∙◌, subst, arith}
 use Rattle.std.proofs.lemmas.Result.{IfOk-weaker}
 use Rattle.dur_view.specs.declared.data.View.{View}
 use Rattle.dur_view.specs.History.{Start, ◌▸◌, ◌+>◌}
-use Rattle.dur_view.proofs.SameEffects.{start-extend}
-use Rattle.dur_view.proofs.LimitLaws.{limit-none, refused-is}
+use Rattle.dur_view.proofs.Cutting.SameEffects.{start-extend}
+use Rattle.dur_view.proofs.Histories.Limits.{limit-none, refused-is}
 use Rattle.dur_view.proofs.limits.refused.Goals as goal
 
 pub returns-then-topic-len : goal.returns-then-topic-len

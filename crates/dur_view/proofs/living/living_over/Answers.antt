@@ -2,8 +2,8 @@ use Rattle.std.proofs.Common.{◌++◌, List, take, sym, ap, ◌∙◌}
 use Rattle.dur_view.specs.Past.{Made, Begin, ◌▹▹◌, part}
 use Rattle.dur_view.specs.Fates.{made, made_by}
 use Rattle.dur_view.specs.Living.{living_of}
-use Rattle.dur_view.proofs.LineLaws.{past-more}
-use Rattle.dur_view.proofs.LivingLaws.{living-append}
+use Rattle.dur_view.proofs.Histories.Lines.{past-more}
+use Rattle.dur_view.proofs.Histories.Living.{living-append}
 use Rattle.dur_view.proofs.living.living_over.Goals as goal
 
 pub loop-at-preserved : goal.loop-at-preserved

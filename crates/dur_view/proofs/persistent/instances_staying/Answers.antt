@@ -1,5 +1,5 @@
 use Rattle.dur_view.specs.Persistent.{instance_stays}
-use Rattle.dur_view.proofs.StayingPlaces.{if-staying}
+use Rattle.dur_view.proofs.Persistence.StayingPlaces.{if-staying}
 use Rattle.dur_view.proofs.persistent.instances_staying.Goals as goal
 
 pub returns : goal.returns

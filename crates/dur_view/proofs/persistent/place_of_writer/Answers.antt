@@ -1,6 +1,6 @@
 use Rattle.std.proofs.Common.{◌∙◌, arith}
 use Rattle.dur_view.specs.Persistent.{writer_stays}
-use Rattle.dur_view.proofs.StayingPlaces.{place_among-le}
+use Rattle.dur_view.proofs.Persistence.StayingPlaces.{place_among-le}
 use Rattle.dur_view.proofs.persistent.place_of_writer.Goals as goal
 
 pub overflow_cast-result : goal.overflow_cast-result

@@ -1,6 +1,6 @@
 use Rattle.std.proofs.Common.{◌∙◌, arith}
 use Rattle.dur_view.specs.Persistent.{is_persistent}
-use Rattle.dur_view.proofs.StayingPlaces.{place_among-le}
+use Rattle.dur_view.proofs.Persistence.StayingPlaces.{place_among-le}
 use Rattle.dur_view.proofs.persistent.topic_among.Goals as goal
 
 pub overflow_cast-result : goal.overflow_cast-result

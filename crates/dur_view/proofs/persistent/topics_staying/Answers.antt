@@ -1,6 +1,6 @@
 use Rattle.std.proofs.Common.{map, ap, ◌∙◌}
 use Rattle.dur_view.specs.Persistent.{is_persistent}
-use Rattle.dur_view.proofs.StayingPlaces.{if-staying}
+use Rattle.dur_view.proofs.Persistence.StayingPlaces.{if-staying}
 use Rattle.dur_view.proofs.persistent.topics_staying.Goals as goal
 
 pub returns : goal.returns

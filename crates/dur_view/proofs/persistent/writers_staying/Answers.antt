@@ -1,5 +1,5 @@
 use Rattle.dur_view.specs.Persistent.{writer_stays}
-use Rattle.dur_view.proofs.StayingPlaces.{if-staying}
+use Rattle.dur_view.proofs.Persistence.StayingPlaces.{if-staying}
 use Rattle.dur_view.proofs.persistent.writers_staying.Goals as goal
 
 pub returns : goal.returns

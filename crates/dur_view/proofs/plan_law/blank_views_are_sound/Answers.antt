@@ -1,4 +1,4 @@
-use Rattle.dur_view.proofs.BlankSound.{sound-blank}
+use Rattle.dur_view.proofs.Blanks.Sound.{sound-blank}
 use Rattle.dur_view.proofs.plan_law.blank_views_are_sound.Goals as goal
 
 pub returns : goal.returns

@@ -1,4 +1,4 @@
-use Rattle.dur_view.proofs.FullFollows.{follow-full}
+use Rattle.dur_view.proofs.Filled.EntriesFollow.{follow-full}
 use Rattle.dur_view.proofs.plan_law.entries_follow_full_views.Goals as goal
 
 pub returns : goal.returns

@@ -1,5 +1,5 @@
-use Rattle.dur_view.proofs.CountedTopics.{few-topics}
-use Rattle.dur_view.proofs.FullSound.{full-sound}
+use Rattle.dur_view.proofs.Filled.CountedTopics.{few-topics}
+use Rattle.dur_view.proofs.Filled.Sound.{full-sound}
 use Rattle.dur_view.proofs.plan_law.full_views_are_sound.Goals as goal
 
 pub returns : goal.returns

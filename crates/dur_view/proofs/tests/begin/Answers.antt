@@ -1,7 +1,7 @@
 use Rattle.std.proofs.Common.{refl, sym, subst}
 use Rattle.dur_view.specs.History.{History}
 use Rattle.dur_view.specs.MayAdd.{MayAdd}
-use Rattle.dur_view.proofs.BlankHistories.{may-add-blank}
+use Rattle.dur_view.proofs.Blanks.MayAdd.{may-add-blank}
 use Rattle.dur_view.proofs.tests.begin.Goals as goal
 
 pub returns : goal.returns

@@ -5,7 +5,7 @@ use Rattle.dur_view.specs.declared.data.Kept.{Kept}
 use Rattle.dur_view.specs.Past.{Made}
 use Rattle.dur_view.specs.View.{is_made_of}
 use Rattle.dur_view.specs.Living.{made_living, all_made, counted_in, kept_one, kept_with}
-use Rattle.dur_view.proofs.KeptLoop.{made-below, made-at, made-get, kept-step}
+use Rattle.dur_view.proofs.Cutting.KeptLoop.{made-below, made-at, made-get, kept-step}
 use Rattle.dur_view.proofs.view_kept.add_kept.Goals as goal
 
 pub kept_of-requires-clause-ordinal : goal.kept_of-requires-clause-ordinal

@@ -2,7 +2,7 @@ use Rattle.std.proofs.Common.{List, sym, ap, ◌∙◌}
 use Rattle.dur_view.specs.Identities.{Key}
 use Rattle.dur_view.specs.Past.{Begin, part}
 use Rattle.dur_view.specs.Fates.{keys, keys_by}
-use Rattle.dur_view.proofs.LineLaws.{past-more}
+use Rattle.dur_view.proofs.Histories.Lines.{past-more}
 use Rattle.dur_view.proofs.view_keys.keys_over.Goals as goal
 
 pub loop-event-preserved : goal.loop-event-preserved

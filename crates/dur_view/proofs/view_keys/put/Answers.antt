@@ -4,7 +4,7 @@ use Rattle.std.specs.declared.cmp.Ordering.TheVariants.{Greater}
 use Rattle.dur_view.specs.Identities.{Key}
 use Rattle.dur_view.specs.Words.{is_key}
 use Rattle.dur_view.specs.Fates.{key_cmp}
-use Rattle.dur_view.proofs.KeyPlaces.{AllBelow, with_key-there, with_key-new}
+use Rattle.dur_view.proofs.Histories.KeyPlaces.{AllBelow, with_key-there, with_key-new}
 use Rattle.dur_view.proofs.view_keys.put.Goals as goal
 
 pub returns-then-is_at : goal.returns-then-is_at

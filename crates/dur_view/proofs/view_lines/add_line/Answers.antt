@@ -7,9 +7,9 @@ use Rattle.dur_view.specs.Past.{Begin, ◌▹▹◌, part}
 use Rattle.dur_view.specs.Fates.{is_purged}
 use Rattle.dur_view.specs.View.{line_of}
 use Rattle.dur_view.specs.Living.{all_made, made_living}
-use Rattle.dur_view.proofs.LivingLaws.{purged-told, line-from}
-use Rattle.dur_view.proofs.Ranges.{line-short}
-use Rattle.dur_view.proofs.Parts.{settings-extend}
+use Rattle.dur_view.proofs.Histories.Living.{purged-told, line-from}
+use Rattle.dur_view.proofs.Histories.NumberRanges.{line-short}
+use Rattle.dur_view.proofs.Cutting.SameEntitled.{settings-extend}
 use Rattle.dur_view.proofs.view_lines.add_line.Goals as goal
 
 pub returns-then-is_long : goal.returns-then-is_long

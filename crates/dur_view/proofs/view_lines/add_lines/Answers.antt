@@ -5,7 +5,7 @@ use Rattle.dur_view.specs.Identities.{Key}
 use Rattle.dur_view.specs.Past.{Begin, ◌▹▹◌, part}
 use Rattle.dur_view.specs.Fates.{is_purged}
 use Rattle.dur_view.specs.View.{line_of}
-use Rattle.dur_view.proofs.LivingLaws.{existing-is}
+use Rattle.dur_view.proofs.Histories.Living.{existing-is}
 use Rattle.dur_view.proofs.view_lines.add_lines.Goals as goal
 
 pub returns : goal.returns

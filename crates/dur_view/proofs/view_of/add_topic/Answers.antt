@@ -6,9 +6,9 @@ use Rattle.dur_view.specs.declared.living.Living.{Living}
 use Rattle.dur_view.specs.Past.{Begin, ◌▹▹◌, part}
 use Rattle.dur_view.specs.View.{lines_at, kept_of}
 use Rattle.dur_view.specs.Living.{made_living, all_made}
-use Rattle.dur_view.proofs.Parts.{settings-extend}
-use Rattle.dur_view.proofs.Ranges.{ordinals-told}
-use Rattle.dur_view.proofs.ViewParts.{past-is, range-over, kept-behind}
+use Rattle.dur_view.proofs.Cutting.SameEntitled.{settings-extend}
+use Rattle.dur_view.proofs.Histories.NumberRanges.{ordinals-told}
+use Rattle.dur_view.proofs.Cutting.TopicViews.{past-is, range-over, kept-behind}
 use Rattle.dur_view.proofs.view_of.add_topic.Goals as goal
 
 pub add_lines-requires-clause-range : goal.add_lines-requires-clause-range

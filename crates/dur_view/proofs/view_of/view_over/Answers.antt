@@ -1,5 +1,5 @@
 use Rattle.std.proofs.Common.{◌≡◌, length, ◌∙◌, arith}
-use Rattle.dur_view.proofs.ViewParts.{few-topics, whole-view}
+use Rattle.dur_view.proofs.Cutting.TopicViews.{few-topics, whole-view}
 use Rattle.dur_view.proofs.view_of.view_over.Goals as goal
 
 pub overflow_cast-topic : goal.overflow_cast-topic

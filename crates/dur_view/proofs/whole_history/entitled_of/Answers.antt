@@ -3,7 +3,7 @@ use Rattle.dur_view.specs.declared.change.TopicEvent.{TopicEvent}
 use Rattle.dur_view.specs.History.{Start, ◌+>◌, effects}
 use Rattle.dur_view.specs.Past.{Begin, ◌▹▹◌, part}
 use Rattle.dur_view.specs.Snapshot.{snap}
-use Rattle.dur_view.proofs.SameEffects.{past-effects, start-extend}
+use Rattle.dur_view.proofs.Cutting.SameEffects.{past-effects, start-extend}
 use Rattle.dur_view.proofs.whole_history.entitled_of.Goals as goal
 
 pub returns : goal.returns

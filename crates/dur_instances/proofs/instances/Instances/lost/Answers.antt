@@ -4,7 +4,7 @@ use Rattle.dur_view.specs.Past.{◌▹◌}
 use Rattle.dur_view.specs.Fates.{is_long}
 use Rattle.dur_view.specs.Later.{SameFrom}
 use Rattle.dur_view.specs.declared.change.TopicEvent.TheVariants.{Gone}
-use Rattle.dur_view.proofs.SameLaw.{same-trans, same-step}
+use Rattle.dur_view.proofs.Cutting.TwinsStay.{same-trans, same-step}
 use Rattle.dur_instances.specs.declared.cells.Cell.{Cell}
 use Rattle.dur_instances.specs.declared.registered.Registered.{Registered}
 use Rattle.dur_instances.specs.Trimmed.{Trimmed, begun, row_at}

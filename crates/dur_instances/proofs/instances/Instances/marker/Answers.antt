@@ -3,7 +3,7 @@ use Rattle.dur_view.specs.Identities.{Key}
 use Rattle.dur_view.specs.Past.{◌▹◌}
 use Rattle.dur_view.specs.Fates.{is_long}
 use Rattle.dur_view.specs.declared.change.TopicEvent.TheVariants.{Effect}
-use Rattle.dur_view.proofs.SameLaw.{same-trans, same-step}
+use Rattle.dur_view.proofs.Cutting.TwinsStay.{same-trans, same-step}
 use Rattle.dur_instances.specs.Trimmed.{Trimmed, begun, row_at}
 use Rattle.dur_instances.specs.Stands.{Stands}
 use Rattle.dur_instances.specs.contracts.instances.Instances.{the_view}

@@ -1,6 +1,6 @@
 use Rattle.std.proofs.Common.{◌*◌, ◌^◌, ◌<◌, ◌≤◌, List, refl, sym, ap, ◌∙◌, subst, arith}
 use Rattle.std.proofs.lemmas.Bool.{ltb-true}
-use Rattle.dur_view.proofs.SameLaw.{same-trans, same-later}
+use Rattle.dur_view.proofs.Cutting.TwinsStay.{same-trans, same-later}
 use Rattle.dur_instances.specs.Trimmed.{Trimmed, begun}
 use Rattle.dur_instances.specs.Stands.{Stands}
 use Rattle.dur_instances.specs.declared.changes.Change.{Change}

@@ -10,7 +10,7 @@ use Rattle.dur_view.specs.Fates.{is_long, registered_by}
 use Rattle.dur_view.specs.Words.{is_key}
 use Rattle.dur_view.specs.Later.{SameFrom}
 use Rattle.dur_view.specs.declared.change.TopicEvent.TheVariants.{Effect}
-use Rattle.dur_view.proofs.SameLaw.{same-trans, same-step}
+use Rattle.dur_view.proofs.Cutting.TwinsStay.{same-trans, same-step}
 use Rattle.dur_instances.specs.declared.cells.Cell.{Cell}
 use Rattle.dur_instances.specs.declared.registered.Registered.{Registered}
 use Rattle.dur_instances.specs.Trimmed.{Trimmed, begun, row_at}

@@ -2,7 +2,7 @@ use Rattle.std.proofs.Common.{◌≡◌, Bool, cond, Some, None, map, rules, ref
 use Rattle.dur_view.specs.Identities.{Key}
 use Rattle.dur_view.specs.Words.{is_key}
 use Rattle.dur_view.specs.Fates.{is_nobody}
-use Rattle.dur_view.proofs.Pairs.{is_key-refl}
+use Rattle.dur_view.proofs.Cutting.FatesStay.{is_key-refl}
 use Rattle.dur_instances.specs.declared.table.State.{State}
 use Rattle.dur_instances.specs.declared.table.Cells.TheInside.{Inside}
 use Rattle.dur_instances.specs.Layout.{places, settled, settled_at, quiet_in}

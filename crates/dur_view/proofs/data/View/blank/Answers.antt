@@ -1,4 +1,4 @@
-use Rattle.dur_view.proofs.BlankViews.{blank-is}
+use Rattle.dur_view.proofs.Blanks.Places.{blank-is}
 use Rattle.dur_view.proofs.data.View.blank.Goals as goal
 
 pub returns : goal.returns

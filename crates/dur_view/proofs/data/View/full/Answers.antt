@@ -1,5 +1,5 @@
 use Rattle.std.proofs.Common.{ap, ◌∙◌, length, arith}
-use Rattle.dur_view.proofs.FullWriters.{more_topics-few}
+use Rattle.dur_view.proofs.Filled.Writers.{more_topics-few}
 use Rattle.dur_view.proofs.data.View.full.Goals as goal
 
 pub all_writers-requires : goal.all_writers-requires

@@ -1,7 +1,7 @@
 use Rattle.std.proofs.Common.{◌<◌, length, subst, sym, ap, ◌∙◌}
 use Rattle.dur_view.specs.declared.data.View.{View}
 use Rattle.dur_view.specs.History.{Start, start}
-use Rattle.dur_view.proofs.SameEffects.{start-extend}
+use Rattle.dur_view.proofs.Cutting.SameEffects.{start-extend}
 use Rattle.dur_view.proofs.whole_history.WholeHistory.entitled.Goals as goal
 
 pub entitled_of-requires : goal.entitled_of-requires

@@ -1,6 +1,6 @@
 use Rattle.std.proofs.Common.{sym, ap, ◌∙◌}
 use Rattle.dur_view.specs.History.{Start, start}
-use Rattle.dur_view.proofs.SameEffects.{start-extend}
+use Rattle.dur_view.proofs.Cutting.SameEffects.{start-extend}
 use Rattle.dur_view.proofs.whole_history.WholeHistory.start.Goals as goal
 
 pub returns : goal.returns

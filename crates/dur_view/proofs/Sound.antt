@@ -1,0 +1,26 @@
+-- The view of a history is sound, so that it may begin the next one.
+pub mod StartsAsked
+pub mod Rules
+pub mod Tests
+pub mod Deciding
+pub mod TestsDecide
+pub mod OpenSets
+pub mod FirstOrdinals
+pub mod RegisteredHere
+pub mod RegisteredViews
+pub mod Writers
+pub mod Instances
+pub mod KeptPast
+pub mod KeptStarts
+pub mod KeptSaid
+pub mod KeptOrdinals
+pub mod KeptInstances
+pub mod Kept
+pub mod NumbersEvents
+pub mod NumbersBounds
+pub mod NumbersRise
+pub mod NumbersStart
+pub mod NumbersPast
+pub mod NumbersKept
+pub mod Numbers
+pub mod ViewsAreSound
