@@ -15,7 +15,7 @@ use Rattle.dur_instances.proofs.RegLists.{Alike, reg-same, reg-back, reg-forth, 
 
 -- two that compare equal are one
 pub one-is : (a b : Registered) → reg_cmp a b ≡ Equal → a ≡ b
-one-is a b e = let same = reg-same a b e in let keys = same.keys in let by = same.places in cc
+one-is a b e = let same = reg-same a b e in λ i. record { key = same.keys i; by = same.places i }
 
 pub one-own : (a b : Registered) → is_one a b ≡ true → b ≡ a
 one-own a b e = one-is b a (one-equal b a e)
