@@ -4,6 +4,7 @@
 mod cells;
 mod changes;
 mod due;
+mod expiries;
 mod from_view;
 mod instances;
 mod lines;
