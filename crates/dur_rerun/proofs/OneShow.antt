@@ -23,7 +23,7 @@ use Rattle.dur_rerun.specs.Input.Breaks.{PlanBreaks, CaptureBreaks}
 use Rattle.dur_rerun.specs.Input.Prefix.{own_prefix}
 use Rattle.dur_rerun.specs.Input.Whole.{IsWholeInput}
 use Rattle.dur_rerun.specs.Show.Answer.{ShowsBehind, ShowAnswers}
-use Rattle.dur_rerun.specs.Show.Line.{line, line_of, Shows}
+use Rattle.dur_rerun.specs.Show.Line.{line, Shows}
 use Rattle.dur_rerun.specs.Show.Printing.{ShowsAll, ShowsRead, ShowsBreak, ShowsRest}
 use Rattle.dur_rerun.proofs.OneInput.{one_end, one_place, one_plan_break, whole_or_break, whole_or_plan_break}
 
@@ -40,7 +40,7 @@ shows_of : (own : List ℕ) (rs qs : List Record) (t u : List ℕ) → rs ≡ qs
 shows_of own rs qs t u same x y = shows_once own 1 qs t u (subst (λ (l : List Record). Shows own 1 l t) same x) y
 
 line_some : (i : ℕ) (r : Record) (h : Heard) → 0 < length (line i r h)
-unfolding line_of
+unfolding line
 line_some i r h = rw length-append (omega arith)
 
 none_shown : (own : List ℕ) (i : ℕ) (rs : List Record) → Shows own i rs [] → rs ≡ []

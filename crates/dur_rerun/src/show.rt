@@ -34,7 +34,7 @@ fn run<S: Source, R: Rig>(
     let opened = open_plan(alloc, input)?;
     let own = own_prefix(opened.plan.prefix, epoch);
     let mut printer = Printer::new(alloc, own, opened.feed)?;
-    print_rest(&mut printer, input, rig)
+    print_rest(alloc, &mut printer, input, rig)
 }
 
 /// The command `show` under this epoch: reads a plan and a capture, and prints a line for each record.

@@ -1,6 +1,6 @@
 -- What the submessages that were read tell, and those that follow.
 use Rattle.std.proofs.Common.{◌≡◌, ℕ, ◌+◌, ◌-◌, ◌<◌, ◌≤◌, List, [], ◌∷◌, ◌++◌, length, drop, refl, sym, ap, subst, ◌∙◌, append_assoc, append-nil, arith}
-use Rattle.std.proofs.lemmas.List.{drop-drop, drop_all, length-drop, length-append}
+use Rattle.std.proofs.lemmas.List.{drop-drop, drop_all, length-drop}
 use Rattle.std.specs.Prelude.{Option}
 use Rattle.std.specs.Option.{option_to_list}
 use Rattle.dur_base.specs.declared.fact.Fact.{Fact}
@@ -68,23 +68,4 @@ stops own bytes begin facts c at place kind h more b =
       splits = g.splits;
       ends = record { more = omega (arith, len, more); place = place; breaks = b; at_is = omega (arith, len, more) };
       facts = sym (append-nil facts) ∙ sym g.tells;
-    }
-
--- so many facts were told so far
-pub record Counts (own bytes : List ℕ) (begin : Context) (count : ℕ) (c : Context) (at : ℕ) : Type 0 where
-  pub facts : List Fact
-  pub stands : Stands own bytes begin facts c at
-  pub count_is : count ≡ length facts
-
--- a submessage more
-pub counts_on : (own bytes : List ℕ) (begin : Context) (count more : ℕ) (c d : Context) (at n : ℕ) (s : Sub)
-    → Counts own bytes begin count c at → SubSpells (drop at bytes) s n → n ≤ length (drop at bytes) → d ≡ after c s
-    → more ≡ length (option_to_list (told own c s))
-    → Counts own bytes begin (count + more) d (at + n)
-counts_on own bytes begin count more c d at n s h x fits next tells =
-    let one = option_to_list (told own c s) in
-    record {
-      facts = h.facts ++ one;
-      stands = goes_on own bytes begin h.facts (h.facts ++ one) c d at n s (told own c s) h.stands x fits next refl refl;
-      count_is = omega (arith, h.count_is, tells, length-append h.facts one);
     }

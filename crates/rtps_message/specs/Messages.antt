@@ -6,7 +6,6 @@ use Rattle.rtps_submsg.specs.Subs.{SubSpells, SubBreaks}
 use Rattle.rtps_message.specs.declared.heard.End.{End}
 use Rattle.rtps_message.specs.declared.heard.End.TheVariants.{Whole, BadHeader, Stopped}
 use Rattle.rtps_message.specs.declared.heard.Heard.{Heard}
-use Rattle.rtps_message.specs.declared.heard.Summary.{Summary}
 use Rattle.rtps_message.specs.declared.context.Context.{Context}
 use Rattle.rtps_message.specs.Facts.{start, told_of}
 
@@ -55,20 +54,6 @@ abbrev pub Hears : List ℕ → List ℕ → Heard → Type 0
 Hears own bytes heard =
     (HasHeader bytes × Says own bytes (start bytes) heard)
     ⊎ ((HasHeader bytes → ⊥) × (heard ≡ record { facts = []; end = BadHeader }))
-
--- the number of the facts that the submessages behind the header tell, and how they end
-pub record SumsUpFrom (own bytes : List ℕ) (c : Context) (sum : Summary) : Type 0 where
-  pub heard : Heard
-  pub says : Says own bytes c heard
-  pub facts : sum.facts ≡ length heard.facts
-  pub end : sum.end ≡ heard.end
-
--- the number of the facts of a message, and its end
-pub record SumsUp (own bytes : List ℕ) (sum : Summary) : Type 0 where
-  pub heard : Heard
-  pub hears : Hears own bytes heard
-  pub facts : sum.facts ≡ length heard.facts
-  pub end : sum.end ≡ heard.end
 
 -- each participant hears one thing in it, and nothing else
 pub record HasOneHearing (bytes : List ℕ) : Type 0 where

@@ -1,7 +1,6 @@
 //! Whom a submessage is from and for, and when, as it changes along a message.
 
 ghost use Rattle.std.specs.Prelude.{◌≡◌, ◌↔◌, ◌≤◌, ◌-◌, length, Some, IsTrue, IfOk, IfSome, IsSome, slice_range};
-ghost use Rattle.std.specs.Option.{option_to_list};
 ghost use Rattle.std.specs.Str.{bytes_eq};
 ghost use Rattle.rtps_submsg.specs.Writing.{payload_text};
 ghost use Rattle.rtps_message.specs.Facts.{is_for, start, after, told, data_fact, IsPartBefore};
@@ -97,36 +96,6 @@ impl Context {
         })
     }
 
-    /// Takes up what the next submessage sets for those that follow.
-    fn pass(&mut self, sub: &Sub<'_>)
-        ensures { self.new ≡ after self.old sub.now }
-    {
-        match sub {
-            Sub::InfoTs(time) => self.time = *time,
-            Sub::InfoDst(prefix) => self.destination = *prefix,
-            Sub::InfoSrc(prefix) => {
-                self.source = *prefix;
-                self.time = None;
-            }
-            _ => {}
-        }
-    }
-
-    /// How many facts the next submessage tells, one or none, and what stands behind it.
-    pub fn count(&mut self, own: Prefix, sub: &Sub<'_>) -> usize
-        ensures after { self.new ≡ after self.old sub.now }
-        ensures told { result ≡ length (option_to_list (told own self.old sub.now)) }
-        ensures one { result ≤ 1 }
-    {
-        let is_ours = self.is_for(own);
-        self.pass(sub);
-        match sub {
-            _ if !is_ours => 0,
-            Sub::Data(_) | Sub::Heartbeat { .. } | Sub::Gap { .. } | Sub::AckNack { .. } => 1,
-            _ => 0,
-        }
-    }
-
     /// What the next submessage tells, which ends at that place of the datagram, and what stands behind it.
     pub fn hear(
         &mut self,
@@ -140,8 +109,14 @@ impl Context {
         ensures told { IfOk result (λ f. f ≡ told own self.old sub.now) }
     {
         let is_ours = self.is_for(own);
-        self.pass(sub);
         match sub {
+            Sub::Pad | Sub::Other(_) => {}
+            Sub::InfoTs(time) => self.time = *time,
+            Sub::InfoDst(prefix) => self.destination = *prefix,
+            Sub::InfoSrc(prefix) => {
+                self.source = *prefix;
+                self.time = None;
+            }
             _ if !is_ours => {}
             Sub::Data(data) => return Ok(Some(self.data_fact(data, datagram, end)?)),
             Sub::Heartbeat {
@@ -187,7 +162,6 @@ impl Context {
                     is_final: *is_final,
                 }));
             }
-            _ => {}
         }
         Ok(None)
     }

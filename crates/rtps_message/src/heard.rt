@@ -27,12 +27,3 @@ pub struct Heard {
     /// How the message ends.
     pub end: End,
 }
-
-/// How much a message tells.
-#[derive(Clone, Copy, Debug, PartialEq, Eq, Drop)]
-pub struct Summary {
-    /// The number of its facts.
-    pub facts: usize,
-    /// How the message ends.
-    pub end: End,
-}

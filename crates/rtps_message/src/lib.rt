@@ -8,15 +8,13 @@ mod hearing;
 mod key;
 mod laws;
 mod sample;
-mod summing;
 mod writing;
 
 pub use context::{Context, begin};
-pub use heard::{End, Heard, Summary};
+pub use heard::{End, Heard};
 pub use hearing::{facts, facts_of};
 pub use laws::{changes_read_again, markers_read_again, one_hearing};
 pub use sample::sample_of;
-pub use summing::summary_of;
 pub use writing::{write_acknack, write_data, write_heartbeat, write_marker, write_message};
 
 #[cfg(test)]

@@ -29,14 +29,10 @@ end_text BadHeader = codes "badheader"
 end_text (Stopped at kind) = codes "stopped " ++ decimal at ++ 32 ∷ [] ++ kind_name kind
 
 -- index, moment, port, number of facts, and how the datagram ends
-unfoldable pub line_of : ℕ → Record → ℕ → End → List ℕ
-line_of index r facts end =
-    decimal index ++ 32 ∷ [] ++ decimal r.moment ++ 32 ∷ [] ++ decimal r.port ++ 32 ∷ [] ++ decimal facts ++ 32 ∷ []
-    ++ end_text end ++ 10 ∷ []
-
--- the line of a record of which that is heard
-abbrev pub line : ℕ → Record → Heard → List ℕ
-line index r h = line_of index r (length h.facts) h.end
+unfoldable pub line : ℕ → Record → Heard → List ℕ
+line index r h =
+    decimal index ++ 32 ∷ [] ++ decimal r.moment ++ 32 ∷ [] ++ decimal r.port ++ 32 ∷ [] ++ decimal (length h.facts) ++ 32 ∷ []
+    ++ end_text h.end ++ 10 ∷ []
 
 -- the text is the lines of these records, of which the first has that index
 abbrev pub Shows : List ℕ → ℕ → List Record → List ℕ → Type 0

@@ -2,12 +2,12 @@
 
 ghost use Rattle.std.specs.Prelude.{◌≡◌, ◌∷◌, ◌++◌, [], OnOk};
 ghost use Rattle.std.specs.Fmt.{decimal};
-ghost use Rattle.dur_rerun.specs.Show.Line.{kind_name, end_text, line_of};
+ghost use Rattle.dur_rerun.specs.Show.Line.{kind_name, end_text, line};
 
 use crate::text::{append, append_number};
 use dur_base::OutOfMemory;
 use dur_capture::Record;
-use rtps_message::{End, Summary};
+use rtps_message::{End, Heard};
 use rtps_params::ListKind;
 use rtps_submsg::SubKind;
 
@@ -46,16 +46,15 @@ fn append_end(out: &mut Vec<u8>, end: End) -> Result<(), OutOfMemory>
     }
 }
 
-/// Appends the line of the record with this index, which tells so much.
-#[tactic(auto, unfolding(crate::specs::Show::Line::line_of))]
+/// Appends the line of the record with this index, of which that was heard.
+#[tactic(auto, unfolding(crate::specs::Show::Line::line))]
 pub fn append_line(
     out: &mut Vec<u8>,
     index: u64,
     datagram: &Record,
-    told: Summary,
+    heard: &Heard,
 ) -> Result<(), OutOfMemory>
-    ensures { OnOk result (out.new.items
-        ≡ out.old.items ++ line_of index datagram.now told.facts told.end) }
+    ensures { OnOk result (out.new.items ≡ out.old.items ++ line index datagram.now heard.now) }
 {
     append_number(out, index)?;
     append(out, b" ")?;
@@ -63,8 +62,8 @@ pub fn append_line(
     append(out, b" ")?;
     append_number(out, datagram.port as u64)?;
     append(out, b" ")?;
-    append_number(out, told.facts as u64)?;
+    append_number(out, heard.facts.len() as u64)?;
     append(out, b" ")?;
-    append_end(out, told.end)?;
+    append_end(out, heard.end)?;
     append(out, b"\n")
 }

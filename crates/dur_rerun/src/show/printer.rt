@@ -13,7 +13,7 @@ use crate::show::line::append_line;
 use dur_base::{OutOfMemory, Prefix};
 use dur_capture::{Feed, Record};
 use dur_outside::{Sink, Source};
-use rtps_message::summary_of;
+use rtps_message::facts_of;
 use std::alloc::Global;
 
 /// The octets of text that are held at most before they go out, but for the last line.
@@ -57,22 +57,22 @@ impl Printer {
 }
 
 /// Holds the line of a record that was handed out.
-fn hold_record(printer: &mut Printer, datagram: &Record) -> Result<(), OutOfMemory>
+fn hold_record(alloc: Global, printer: &mut Printer, datagram: &Record) -> Result<(), OutOfMemory>
     requires { printer.old.count + 1 < 2 ^ 64 }
     ensures ok { OnOk result (HoldsLine printer.old datagram.now printer.new) }
     ensures err { OnErr result (IsSame printer.old printer.new) }
 {
     let index = printer.count + 1;
-    let told = summary_of(datagram.bytes.as_slice(), printer.own);
+    let heard = facts_of(alloc, &datagram.bytes, printer.own)?;
     printer.line.clear();
-    append_line(&mut printer.line, index, datagram, told)?;
+    append_line(&mut printer.line, index, datagram, &heard)?;
     printer.held.extend_from_slice(&printer.line)?;
     printer.count = index;
     Ok(())
 }
 
 /// Holds the lines of the records that are whole, and answers whether the room for them is full.
-fn hold_records(printer: &mut Printer, ended: bool) -> Result<bool, Status>
+fn hold_records(alloc: Global, printer: &mut Printer, ended: bool) -> Result<bool, Status>
     requires { IsCounted printer.old }
     ensures counted { OnOk result (IsCounted printer.new) }
     ensures holds { (own : List ℕ) (before : ℕ) (octets sent : List ℕ) → Holds own before octets sent printer.old
@@ -83,7 +83,7 @@ fn hold_records(printer: &mut Printer, ended: bool) -> Result<bool, Status>
 {
     'records: loop {
         match printer.feed.next(ended)? {
-            Some(datagram) => hold_record(printer, &datagram)?,
+            Some(datagram) => hold_record(alloc, printer, &datagram)?,
             None => return Ok(false),
         }
         if printer.held.len() >= FULL {
@@ -111,6 +111,7 @@ fn send_held<K: Sink>(printer: &mut Printer, out: &mut K) -> Result<(), Status>
 /// Prints the records of the rest of the input as they come, to its end. Beside a failure of the source
 /// and of the sink, it ends early where the capture first breaks off, and for want of memory.
 pub fn print_rest<S: Source, K: Sink>(
+    alloc: Global,
     printer: &mut Printer,
     input: &mut S,
     out: &mut K,
@@ -124,7 +125,7 @@ pub fn print_rest<S: Source, K: Sink>(
 {
     let mut ended = false;
     'pieces: loop {
-        let held = hold_records(printer, ended);
+        let held = hold_records(alloc, printer, ended);
         send_held(printer, out)?;
         let full = held?;
         if !full {
